@@ -1,0 +1,4 @@
+pub mod Laid
+pub mod OneMore
+pub mod Sound
+pub mod Whole

@@ -1,0 +1,16 @@
+use mathlib.Core.Path.{_≡_, ap, _∙_}
+use mathlib.Core.List.{[]}
+use borrow.Author.Needs.{needs}
+use Rattle.std.proofs.shelf.Lists.{take-all}
+use Rattle.line.specs.declared.words.Parity.{Parity}
+use Rattle.line.specs.Burst.{burst-of, more}
+use Rattle.line.proofs.Whole.{whole, more-one}
+use Rattle.line.proofs.kept.Receiver.characters.Needs as need
+
+pub loop-character-again : need.loop-character-again
+loop-character-again c = more-one _ _ _ (c .args .characters .now) (c .loop-character .character-index) (record { value = 0; parity = Parity.Good }) (c .loop-character-test .taken) (c .loop-character .inv) (c .octet .ensures .burst)
+
+pub returns : need.returns
+returns c =
+    let told : burst-of (c .loop-character .self) ≡ more (burst-of (c .args .self .now)) (c .args .characters .now) = search (needs, take-all) in
+    record { burst = told; whole = λ empty. told ∙ ap (λ b. more b (c .args .characters .now)) empty ∙ whole [] (c .args .characters .now) }

@@ -1,0 +1,26 @@
+// A frame put together.
+ghost use mathlib.Core.Path.{_≡_};
+ghost use Prim.Native.Nat.{_≤_};
+ghost use lib.ListN.{length};
+ghost use Rattle.line.specs.Compose.{composed, undamaged, with-crc};
+ghost use Rattle.line.specs.Line.{damage-checks};
+ghost use Rattle.outcome.specs.Checks.{first-failing};
+ghost use Rattle.std.specs.declared.option.Option.the-variants.{None};
+use crc::crc_of;
+
+/// Writes octets and their CRC, low octet first, to the start of a buffer, and tells the frame's length. `None` where the
+/// buffer is too short: it stays as it was. From two octets on, what is written is sound where it comes undamaged.
+pub fn compose(octets: &[u8], buffer: &mut [u8]) -> Option<usize>
+    ensures value { λ r. ⌜ (r, now (buffer .exit)) ≡ composed (now (octets .entry)) (now (buffer .entry)) ⌝ }
+    ensures sound { λ _. ⌜ (2 ≤ length (now (octets .entry)) → first-failing (damage-checks (undamaged (with-crc (now (octets .entry))))) ≡ None) ⌝ }
+{
+    let end = octets.len();
+    if buffer.len() < 2 || buffer.len() - 2 < end {
+        return None;
+    }
+    let crc = crc_of(octets);
+    buffer[0..end].copy_from_slice(octets);
+    buffer[end] = (crc & 0xff) as u8;
+    buffer[end + 1] = (crc >> 8) as u8;
+    Some(end + 2)
+}

@@ -1,0 +1,78 @@
+// Octets come in, a silence empties the receiver.
+ghost use lib.ListN.{replicate, take};
+ghost use mathlib.Core.Path.{_≡_};
+ghost use Rattle.line.specs.Burst.{burst-of, more, no-burst, one-more, stored, whole-burst};
+use crate::kept::Receiver;
+use crate::words::Character;
+use crate::words::Frame;
+use crate::words::Parity;
+
+impl Receiver {
+    /// A receiver begins as 256 zero octets and length 0.
+    pub fn new() -> Receiver
+        ensures burst { λ r. ⌜ burst-of r ≡ no-burst ⌝ }
+        ensures octets { λ r. ⌜ r .octets ≡ replicate 256 0 ⌝ }
+        ensures marks { λ r. ⌜ r .marks ≡ replicate 256 Parity.Good ⌝ }
+    {
+        Receiver {
+            octets: [0; 256],
+            marks: [Parity::Good; 256],
+            length: 0,
+            overlong: false,
+        }
+    }
+
+    /// A run of characters off the wire. From a burst's beginning on, what is kept of it is its first 256 octets.
+    pub fn characters(&mut self, characters: &[Character])
+        ensures burst { λ _. ⌜ burst-of (now (self .exit)) ≡ more (burst-of (now (self .entry))) (now (characters .entry)) ⌝ }
+        ensures whole { λ _. ⌜ (burst-of (now (self .entry)) ≡ no-burst → burst-of (now (self .exit)) ≡ whole-burst (now (characters .entry))) ⌝ }
+    {
+        for character in characters {
+            self.octet(character.value, character.parity);
+        }
+    }
+
+    /// One character off the wire.
+    pub fn octet(&mut self, value: u8, parity: Parity)
+        ensures burst { λ _. ⌜ burst-of (now (self .exit)) ≡ one-more (burst-of (now (self .entry))) value parity ⌝ }
+        ensures octets { λ _. ⌜ now (self .exit) .octets ≡ stored (now (self .entry) .octets) (now (self .entry) .length) value ⌝ }
+        ensures marks { λ _. ⌜ now (self .exit) .marks ≡ stored (now (self .entry) .marks) (now (self .entry) .length) parity ⌝ }
+    {
+        if self.length < 256 {
+            self.octets[self.length] = value;
+            self.marks[self.length] = parity;
+            self.length += 1;
+        } else {
+            self.overlong = true;
+        }
+    }
+
+    /// The burst has ended: the next octet is the first of another.
+    pub fn clear(&mut self)
+        ensures burst { λ _. ⌜ burst-of (now (self .exit)) ≡ no-burst ⌝ }
+        ensures octets { λ _. ⌜ now (self .exit) .octets ≡ now (self .entry) .octets ⌝ }
+        ensures marks { λ _. ⌜ now (self .exit) .marks ≡ now (self .entry) .marks ⌝ }
+    {
+        self.length = 0;
+        self.overlong = false;
+    }
+
+    /// The octets kept.
+    pub fn octets(&self) -> &[u8]
+        ensures { λ r. ⌜ now r ≡ burst-of (now (self .entry)) .octets ⌝ }
+    {
+        &self.octets[0..self.length]
+    }
+
+    /// The octets of a frame that it holds, without their CRC.
+    pub fn body(&self, frame: &Frame) -> &[u8]
+        ensures { λ r. ⌜ now r ≡ take (now (frame .entry) .end) (burst-of (now (self .entry)) .octets) ⌝ }
+    {
+        let kept = self.octets();
+        if frame.end < kept.len() {
+            &kept[0..frame.end]
+        } else {
+            kept
+        }
+    }
+}
