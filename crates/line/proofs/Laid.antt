@@ -4,7 +4,6 @@ use mathlib.Core.List.{List, [], _∷_, _++_, append-assoc}
 use Prim.Native.Nat.{ℕ, suc, _+_, _-_, _/_, _%_, _≤_}
 use native.Mathlib.Numerals.{add-one}
 use native.Mathlib.Omega.{arith}
-use lib.Bits.{bitAnd, and-mask}
 use lib.ListN.{length, drop, set, length-append, length-drop}
 use Rattle.std.proofs.shelf.Lists.{drop-drop}
 use Rattle.crc.specs.Crc.{low-first}
@@ -16,8 +15,8 @@ two-set [] (x ∷ []) a b h = absurd (omega arith)
 two-set [] (x ∷ y ∷ rest) a b h = refl
 two-set (o ∷ os) rest a b h = ap (λ xs. o ∷ xs) (two-set os rest a b h)
 
-pub laid : (os buffer : List ℕ) (w : ℕ) → length os + 2 ≤ length buffer
-    → set (set (os ++ drop (length os) buffer) (length os) (bitAnd w 255)) (length os + 1) (w / 256) ≡ laid-over (os ++ low-first w) buffer
-laid os buffer w room =
+pub laid : (os buffer : List ℕ) (w low high : ℕ) → length os + 2 ≤ length buffer → low ≡ w % 256 → high ≡ w / 256
+    → set (set (os ++ drop (length os) buffer) (length os) low) (length os + 1) high ≡ laid-over (os ++ low-first w) buffer
+laid os buffer w low high room is-low is-high =
     let two : 2 ≤ length (drop (length os) buffer) = simp length-drop (omega arith) in
-    rw (add-one, two-set os (drop (length os) buffer) (bitAnd w 255) (w / 256) two, and-mask w 8, append-assoc, length-append, drop-drop)
+    rw (add-one, two-set os (drop (length os) buffer) low high two, is-low, is-high, append-assoc, length-append, drop-drop)

@@ -18,9 +18,9 @@ pub fn compose(octets: &[u8], buffer: &mut [u8]) -> Option<usize>
     if buffer.len() < 2 || buffer.len() - 2 < end {
         return None;
     }
-    let crc = crc_of(octets);
+    let [low, high] = crc_of(octets).to_le_bytes();
     buffer[0..end].copy_from_slice(octets);
-    buffer[end] = (crc & 0xff) as u8;
-    buffer[end + 1] = (crc >> 8) as u8;
+    buffer[end] = low;
+    buffer[end + 1] = high;
     Some(end + 2)
 }
