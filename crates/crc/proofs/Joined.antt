@@ -1,13 +1,12 @@
--- Going on over a second part is going over both joined, and a CRC closes its own octets.
+-- Going on over a second part is going over both joined, and a remainder's own two octets close it.
 use mathlib.Core.Path.{_≡_, refl, sym, ap, _∙_}
 use mathlib.Core.List.{List, [], _∷_, _++_}
 use Prim.Native.Nat.{ℕ, _*_, _/_, _%_}
 use lib.Bits.{bitXor, xor-zero-r, xor-self, xor-assoc}
-use Rattle.crc.specs.Crc.{bit-step, bit-steps, octet-step, crc-from, crc-of, low-first}
+use Rattle.crc.specs.Crc.{bit-step, bit-steps, octet-step, crc-from, low-first}
 use Rattle.crc.proofs.Linear.{parts-xor, steps-high}
 
 pub goes-on : (before after : List ℕ) (start : ℕ) → crc-from (crc-from start before) after ≡ crc-from start (before ++ after)
-unfolding crc-from
 goes-on [] after start = refl
 goes-on (o ∷ before) after start = goes-on before after (octet-step start o)
 
@@ -22,9 +21,8 @@ same-leaves-none : (h : ℕ) → octet-step h h ≡ 0
 unfolding octet-step bit-steps bit-step
 same-leaves-none h = ap (bit-steps 8) (xor-self h)
 
-pub closed : (os : List ℕ) → crc-of (os ++ low-first (crc-of os)) ≡ 0
-unfolding crc-of crc-from
-closed os =
-    sym (goes-on os (low-first (crc-of os)) 0xFFFF)
-    ∙ ap (λ x. octet-step x (crc-of os / 256)) (low-leaves-high (crc-of os))
-    ∙ same-leaves-none (crc-of os / 256)
+pub closed : (os : List ℕ) (start : ℕ) → crc-from start (os ++ low-first (crc-from start os)) ≡ 0
+closed os start =
+    sym (goes-on os (low-first (crc-from start os)) start)
+    ∙ ap (λ x. octet-step x (crc-from start os / 256)) (low-leaves-high (crc-from start os))
+    ∙ same-leaves-none (crc-from start os / 256)

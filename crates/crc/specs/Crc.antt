@@ -20,11 +20,11 @@ unfoldable pub octet-step : ℕ → ℕ → ℕ
 octet-step r o = bit-steps 8 (bitXor r o)
 
 -- the remainder after further octets
-unfoldable pub crc-from : ℕ → List ℕ → ℕ
+abbrev pub crc-from : ℕ → List ℕ → ℕ
 crc-from r os = folded octet-step r os
 
 -- the CRC of octets: their remainder from FFFFh on
-unfoldable pub crc-of : List ℕ → ℕ
+abbrev pub crc-of : List ℕ → ℕ
 crc-of os = crc-from 0xFFFF os
 
 -- a word as it is sent behind a frame: low octet first

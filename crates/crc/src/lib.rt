@@ -48,9 +48,11 @@ fn octet_step(remainder: u16, octet: u8) -> u16
 }
 
 /// The remainder after further octets. Where `remainder` is that of octets gone over before, the result is that of both joined.
+/// Gone over next, the result's own two octets, low one first, leave 0.
 pub fn crc_from(remainder: u16, octets: &[u8]) -> u16
     ensures value { λ r. ⌜ r ≡ crc-from remainder (now (octets .entry)) ⌝ }
     ensures joined { λ r. ⌜ ((start : ℕ) (before : List ℕ) → remainder ≡ crc-from start before → r ≡ crc-from start (before ++ now (octets .entry))) ⌝ }
+    ensures closes { λ r. ⌜ crc-from remainder (now (octets .entry) ++ low-first r) ≡ 0 ⌝ }
 {
     let mut r = remainder;
     for octet in octets {
@@ -59,7 +61,7 @@ pub fn crc_from(remainder: u16, octets: &[u8]) -> u16
     r
 }
 
-/// The CRC of a frame's octets. Gone over behind them, its own two octets, low one first, leave the remainder 0.
+/// The CRC of a frame's octets.
 pub fn crc_of(octets: &[u8]) -> u16
     ensures value { λ r. ⌜ r ≡ crc-of (now (octets .entry)) ⌝ }
     ensures closes { λ r. ⌜ crc-of (now (octets .entry) ++ low-first r) ≡ 0 ⌝ }
