@@ -4,7 +4,6 @@ use mathlib.Core.List.{List, [], _∷_, _++_, append-assoc}
 use Prim.Native.Nat.{ℕ, _+_, _<_}
 use lib.ListN.{length, getD, take}
 use Rattle.std.proofs.shelf.Lists.{take-more, joined-more}
-use Rattle.std.specs.shelf.Lists.{joined}
 use Rattle.account.specs.Texts.{hex-octet, hex-octets}
 
 -- three characters, each of one octet

@@ -12,7 +12,6 @@ use Rattle.outcome.specs.declared.faults.Fault.{Fault}
 use Rattle.outcome.specs.Causes.{fault-at}
 use Rattle.line.specs.declared.words.LineFault.{LineFault}
 use Rattle.line.specs.declared.words.Reception.{Reception}
-use Rattle.line.specs.declared.words.Character.{Character}
 use Rattle.line.specs.Burst.{Burst, no-burst, more, burst-of}
 use Rattle.line.specs.Line.{reception}
 use Rattle.script.specs.Lines.{Said, blank, station, octets, silence, unknown}

@@ -1,14 +1,11 @@
 // What is told, as text.
-ghost use lib.Chars.{codes};
-ghost use lib.ListN.{length};
-ghost use mathlib.Core.List.{[], _++_};
+ghost use mathlib.Core.List.{_++_};
 ghost use mathlib.Core.Path.{_≡_};
 ghost use Prim.Native.Nat.{_<_};
 ghost use Rattle.account.specs.Ears.{told, refused, idle, frame, faulty};
 ghost use Rattle.account.specs.Texts.{hex-digit, hex-octet, hex-octets, layer-name, fault-text, silence-text};
 ghost use Rattle.std.specs.Of.String.{string-bytes};
 ghost use Rattle.std.specs.Vec.{made};
-ghost use Rattle.std.specs.Written.{decimal};
 use crate::ear::Heard;
 use outcome::Cause;
 use outcome::Fault;
@@ -24,13 +21,13 @@ fn hex_digit(digit: u8) -> char
     if digit < 10 { char::from(48 + digit) } else { char::from(55 + digit) }
 }
 
-fn push_octet(text: &mut String, octet: u8) -> Result<(), AllocError>
-    ensures { λ r. ⌜ made r (λ _. string-bytes (now (text .exit)) ≡ string-bytes (now (text .entry)) ++ hex-octet octet) ⌝ }
+fn with_octet(mut text: String, octet: u8) -> Result<String, AllocError>
+    ensures { λ r. ⌜ made r (λ s. string-bytes s ≡ string-bytes text ++ hex-octet octet) ⌝ }
 {
     text.push(' ')?;
     text.push(hex_digit(octet / 16))?;
     text.push(hex_digit(octet % 16))?;
-    Ok(())
+    Ok(text)
 }
 
 fn octets_text(heap: Global, octets: &[u8]) -> Result<String, AllocError>
@@ -38,7 +35,7 @@ fn octets_text(heap: Global, octets: &[u8]) -> Result<String, AllocError>
 {
     let mut text = String::new(heap);
     for octet in octets {
-        push_octet(&mut text, *octet)?;
+        text = with_octet(text, *octet)?;
     }
     Ok(text)
 }

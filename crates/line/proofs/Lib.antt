@@ -1,3 +1,4 @@
+pub mod Folds
 pub mod Laid
 pub mod OneMore
 pub mod Sound

@@ -1,7 +1,7 @@
 -- A frame with its CRC behind it is sound where it comes undamaged.
 use mathlib.Core.Path.{_≡_, refl, sym, ap, _∙_}
-use mathlib.Core.List.{List, [], _∷_, _++_}
-use mathlib.Core.Bool.{Bool, true, false, cond, not}
+use mathlib.Core.List.{List}
+use mathlib.Core.Bool.{true, false}
 use Prim.Native.Nat.{ℕ, zero, suc, _+_, _-_, _*_, _/_, _%_, _≤_}
 use native.Mathlib.Numerals.{one-add}
 use native.Mathlib.Omega.{arith}
@@ -9,12 +9,11 @@ use borrow.Author.Tests.{le-ltb, eq-eqb}
 use lib.Dec.{eqb, ltb}
 use lib.ListN.{length, getD, take, replicate, length-append}
 use Rattle.std.proofs.shelf.Lists.{length-replicate, take-at, getD-at, getD-append-add}
-use Rattle.std.specs.shelf.Lists.{leading}
 use Rattle.std.specs.declared.option.Option.the-variants.{None}
 use Rattle.crc.specs.Crc.{crc-of, low-first}
 use Rattle.outcome.specs.Checks.{first-failing}
 use Rattle.line.specs.declared.words.Parity.{Parity}
-use Rattle.line.specs.Line.{is-good, good-marks, crc-fits, damage-checks}
+use Rattle.line.specs.Line.{good-marks, crc-fits, damage-checks}
 use Rattle.line.specs.Compose.{with-crc, undamaged}
 
 all-good : (n : ℕ) → good-marks (replicate n Parity.Good) ≡ n

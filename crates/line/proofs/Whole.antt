@@ -1,19 +1,17 @@
 -- A burst heard from its beginning on is the first 256 of its characters.
-use mathlib.Core.Path.{_≡_, refl, sym, ap, _∙_}
+use mathlib.Core.Path.{_≡_, sym, ap, _∙_}
 use mathlib.Core.List.{List, [], _∷_, _++_, map, append-assoc, append-nil}
-use mathlib.Core.Bool.{Bool, true, false, cond}
+use mathlib.Core.Bool.{true, false}
 use mathlib.Core.Logic.{⊎-elim}
 use Prim.Native.Nat.{ℕ, min, _+_, _<_, _≤_}
 use native.Mathlib.Omega.{arith}
 use borrow.Author.Tests.{lt-ltb, le-ltb}
 use lib.Dec.{ltb}
-use lib.ListN.{length, getD, take, length-append}
+use lib.ListN.{length, take, length-append}
 use Rattle.std.proofs.shelf.Lists.{map-append, length-map, take-all, take-append-le, length-take}
-use Rattle.std.proofs.shelf.Sums.{folded-more}
 use Rattle.std.proofs.shelf.Tests.{cases-lt}
 use Rattle.line.specs.declared.words.Character.{Character}
-use Rattle.line.specs.declared.words.Parity.{Parity}
-use Rattle.line.specs.Burst.{Burst, no-burst, one-more, more, whole-burst}
+use Rattle.line.specs.Burst.{one-more, more, whole-burst}
 
 -- the first 256 of a list and one more
 first-more : {A : Type 0} (f : Character → A) (cs : List Character) (c : Character) → length cs < 256
@@ -57,11 +55,3 @@ whole done (c ∷ rest) =
     ap (λ b. more b rest) (one-whole done c)
     ∙ whole (done ++ (c ∷ [])) rest
     ∙ ap whole-burst (append-assoc done (c ∷ []) rest)
-
--- one character more
-pub more-one : (b now next : Burst) (cs : List Character) (i : ℕ) (d : Character) → i < length cs
-    → now ≡ more b (take i cs) → next ≡ one-more now (getD cs i d .value) (getD cs i d .parity) → next ≡ more b (take (i + 1) cs)
-more-one b now next cs i d h before here =
-    here
-    ∙ ap (λ x. one-more x (getD cs i d .value) (getD cs i d .parity)) before
-    ∙ sym (folded-more (λ x c. one-more x (c .value) (c .parity)) b cs i d h)

@@ -3,7 +3,7 @@ use mathlib.Core.List.{List, [], _∷_, _++_, map}
 use mathlib.Core.Bool.{Bool, true, false, cond}
 use Prim.Native.Nat.{ℕ}
 use lib.Dec.{ltb}
-use lib.ListN.{length, take, set}
+use lib.ListN.{length, take}
 use Rattle.std.specs.shelf.Lists.{folded}
 use Rattle.line.specs.declared.words.Parity.{Parity}
 use Rattle.line.specs.declared.words.Character.{Character}
@@ -36,10 +36,6 @@ whole-burst cs = record {
     marks = take 256 (map (λ c. c .parity) cs);
     overlong = ltb 256 (length cs)
   }
-
--- a receiver's memory after an octet: written behind those that it holds while there is room
-abbrev pub stored : {A : Type 0} → List A → ℕ → A → List A
-stored xs n x = cond (ltb n 256) (set xs n x) xs
 
 -- the burst that a receiver holds
 abbrev pub burst-of : Receiver → Burst

@@ -1,3 +1,4 @@
 pub mod Burst
+pub mod Memory
 pub mod Line
 pub mod Compose

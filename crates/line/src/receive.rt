@@ -1,7 +1,8 @@
 // Octets come in, a silence empties the receiver.
-ghost use lib.ListN.{replicate, take};
+ghost use lib.ListN.{take};
 ghost use mathlib.Core.Path.{_≡_};
-ghost use Rattle.line.specs.Burst.{burst-of, more, no-burst, one-more, stored, whole-burst};
+ghost use Rattle.line.specs.Burst.{burst-of, more, no-burst, one-more, whole-burst};
+ghost use Rattle.line.specs.Memory.{memory-of, fresh, remembered, all-remembered, emptied};
 use crate::kept::Receiver;
 use crate::words::Character;
 use crate::words::Frame;
@@ -11,8 +12,7 @@ impl Receiver {
     /// A receiver begins as 256 zero octets and length 0.
     pub fn new() -> Receiver
         ensures burst { λ r. ⌜ burst-of r ≡ no-burst ⌝ }
-        ensures octets { λ r. ⌜ r .octets ≡ replicate 256 0 ⌝ }
-        ensures marks { λ r. ⌜ r .marks ≡ replicate 256 Parity.Good ⌝ }
+        ensures memory { λ r. ⌜ memory-of r ≡ fresh ⌝ }
     {
         Receiver {
             octets: [0; 256],
@@ -25,6 +25,7 @@ impl Receiver {
     /// A run of characters off the wire. From a burst's beginning on, what is kept of it is its first 256 octets.
     pub fn characters(&mut self, characters: &[Character])
         ensures burst { λ _. ⌜ burst-of (now (self .exit)) ≡ more (burst-of (now (self .entry))) (now (characters .entry)) ⌝ }
+        ensures memory { λ _. ⌜ memory-of (now (self .exit)) ≡ all-remembered (memory-of (now (self .entry))) (now (characters .entry)) ⌝ }
         ensures whole { λ _. ⌜ (burst-of (now (self .entry)) ≡ no-burst → burst-of (now (self .exit)) ≡ whole-burst (now (characters .entry))) ⌝ }
     {
         for character in characters {
@@ -35,8 +36,7 @@ impl Receiver {
     /// One character off the wire.
     pub fn octet(&mut self, value: u8, parity: Parity)
         ensures burst { λ _. ⌜ burst-of (now (self .exit)) ≡ one-more (burst-of (now (self .entry))) value parity ⌝ }
-        ensures octets { λ _. ⌜ now (self .exit) .octets ≡ stored (now (self .entry) .octets) (now (self .entry) .length) value ⌝ }
-        ensures marks { λ _. ⌜ now (self .exit) .marks ≡ stored (now (self .entry) .marks) (now (self .entry) .length) parity ⌝ }
+        ensures memory { λ _. ⌜ memory-of (now (self .exit)) ≡ remembered (memory-of (now (self .entry))) value parity ⌝ }
     {
         if self.length < 256 {
             self.octets[self.length] = value;
@@ -50,8 +50,7 @@ impl Receiver {
     /// The burst has ended: the next octet is the first of another.
     pub fn clear(&mut self)
         ensures burst { λ _. ⌜ burst-of (now (self .exit)) ≡ no-burst ⌝ }
-        ensures octets { λ _. ⌜ now (self .exit) .octets ≡ now (self .entry) .octets ⌝ }
-        ensures marks { λ _. ⌜ now (self .exit) .marks ≡ now (self .entry) .marks ⌝ }
+        ensures memory { λ _. ⌜ memory-of (now (self .exit)) ≡ emptied (memory-of (now (self .entry))) ⌝ }
     {
         self.length = 0;
         self.overlong = false;

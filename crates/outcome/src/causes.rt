@@ -1,7 +1,7 @@
 // Every cause for which a call is refused or a burst is at fault.
 ghost use mathlib.Core.Path.{_≡_};
 ghost use Rattle.std.specs.Options.{isSome};
-ghost use Rattle.outcome.specs.Causes.{entry, number-of, layer-of, code-of};
+ghost use Rattle.outcome.specs.Causes.{number-of, layer-of, code-of};
 ghost use Rattle.outcome.specs.Laws.{layer-numbered, is-answered};
 
 /// Where a check stands on the way from the wire to the breaker. `Entry` is the call itself, before any burst is looked at.

@@ -7,7 +7,7 @@ use lib.ListN.{length, getD, drop}
 use denote.Ref.{RefT, now}
 use Rattle.std.proofs.shelf.Lists.{at-drop-more, at-drop-all}
 use Rattle.std.specs.declared.option.Option.{Option}
-use Rattle.std.specs.declared.option.Option.the-variants.{Some, None}
+use Rattle.std.specs.declared.option.Option.the-variants.{None}
 use Rattle.std.specs.shelf.Lists.{folded}
 use Rattle.crc.specs.Crc.{crc-of, low-first}
 use Rattle.line.specs.declared.words.Character.{Character}

@@ -1,8 +1,7 @@
-use mathlib.Core.Path.{_≡_, ap, _∙_}
+use mathlib.Core.Path.{ap, _∙_}
 use mathlib.Core.List.{_++_}
 use lib.Chars.{codes}
 use Rattle.std.proofs.shelf.Results.{made-weaker}
-use Rattle.std.specs.Of.String.{string-bytes}
 use Rattle.account.proofs.texts.faulty_text.Needs as need
 
 pub returns : need.returns

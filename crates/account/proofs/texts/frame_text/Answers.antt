@@ -1,9 +1,8 @@
-use mathlib.Core.Path.{_≡_, ap, _∙_}
+use mathlib.Core.Path.{ap, _∙_}
 use mathlib.Core.List.{_++_}
 use lib.Chars.{codes}
 use lib.ListN.{length}
 use Rattle.std.proofs.shelf.Results.{made-weaker}
-use Rattle.std.specs.Of.String.{string-bytes}
 use Rattle.std.specs.Written.{decimal}
 use Rattle.account.proofs.texts.frame_text.Needs as need
 

@@ -1,6 +1,5 @@
 use mathlib.Core.Path.{ap}
 use native.Mathlib.Omega.{arith}
-use borrow.Author.Needs.{needs}
 use Rattle.std.proofs.shelf.Sums.{leading-drop-yes, leading-drop-no, leading-drop-all}
 use Rattle.line.specs.declared.words.Parity.{Parity}
 use Rattle.line.specs.Line.{is-good}

@@ -1,5 +1,4 @@
 use mathlib.Core.Path.{_≡_, sym, subst}
-use borrow.Author.Needs.{needs}
 use borrow.Author.Tests.{true-eqb, false-eqb}
 use Rattle.std.specs.Vec.{made}
 use Rattle.script.specs.Lines.{said}

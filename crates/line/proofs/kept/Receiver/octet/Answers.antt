@@ -5,13 +5,11 @@ use Rattle.line.proofs.kept.Receiver.octet.Needs as need
 pub returns-then-self-lt256 : need.returns-then-self-lt256
 returns-then-self-lt256 c = record {
     burst = kept (c .args .self .now .octets) (c .args .self .now .marks) (c .args .self .now .length) (c .args .value) (c .args .parity) (c .args .self .now .overlong) (search needs) (search needs) (search needs);
-    octets = search needs;
-    marks = search needs
+    memory = search needs
   }
 
 pub returns-else-self-lt256 : need.returns-else-self-lt256
 returns-else-self-lt256 c = record {
     burst = not-kept (c .args .self .now .octets) (c .args .self .now .marks) (c .args .self .now .length) (c .args .value) (c .args .parity) (c .args .self .now .overlong) (search needs) (search needs);
-    octets = search needs;
-    marks = search needs
+    memory = search needs
   }
