@@ -16,7 +16,10 @@ use outcome::Fault;
 pub(crate) fn address_in(address: u32) -> u8
     ensures { λ r. ⌜ r ≡ address-in address ⌝ }
 {
-    if address == 0 || address > 247 { 247 } else { address as u8 }
+    match address {
+        1..=247 => address as u8,
+        _ => 247,
+    }
 }
 
 impl Ear {

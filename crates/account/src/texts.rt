@@ -1,9 +1,11 @@
 // What is told, as text.
-ghost use mathlib.Core.List.{_++_};
+ghost use lib.Chars.{codes};
+ghost use mathlib.Core.List.{_++_, map};
 ghost use mathlib.Core.Path.{_≡_};
 ghost use Prim.Native.Nat.{_<_};
 ghost use Rattle.account.specs.Ears.{told, refused, idle, frame, faulty};
 ghost use Rattle.account.specs.Texts.{hex-digit, hex-octet, hex-octets, layer-name, fault-text, silence-text};
+ghost use Rattle.script.specs.Lines.{good, octets as brings, line-said};
 ghost use Rattle.std.specs.Of.String.{string-bytes};
 ghost use Rattle.std.specs.Vec.{made};
 use crate::ear::Heard;
@@ -30,8 +32,10 @@ fn with_octet(mut text: String, octet: u8) -> Result<String, AllocError>
     Ok(text)
 }
 
+// Behind the word `octets`, the text is a line of a script that brings these octets again.
 fn octets_text(heap: Global, octets: &[u8]) -> Result<String, AllocError>
-    ensures { λ r. ⌜ made r (λ s. string-bytes s ≡ hex-octets (now (octets .entry))) ⌝ }
+    ensures value { λ r. ⌜ made r (λ s. string-bytes s ≡ hex-octets (now (octets .entry))) ⌝ }
+    ensures again { λ r. ⌜ made r (λ s. line-said (codes "octets" ++ string-bytes s) ≡ brings (map good (now (octets .entry)))) ⌝ }
 {
     let mut text = String::new(heap);
     for octet in octets {

@@ -9,5 +9,5 @@ use Rattle.account.proofs.texts.frame_text.Needs as need
 pub returns : need.returns
 returns c =
     made-weaker (c .format .result) _ _
-      (λ s e. e ∙ ap (λ t. codes "silence: frame, " ++ (decimal (length (c .args .octets .now)) ++ (codes " octets:" ++ t))) (c .in-Continue-text .ensures tt))
+      (λ s e. e ∙ ap (λ t. codes "silence: frame, " ++ (decimal (length (c .args .octets .now)) ++ (codes " octets:" ++ t))) (c .in-Continue-text .ensures tt .value))
       (c .format .ensures .made)
