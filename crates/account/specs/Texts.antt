@@ -13,7 +13,7 @@ use Rattle.outcome.specs.Causes.{number-of}
 use Rattle.script.specs.Lines.{Said, blank, station, octets, silence, unknown}
 use Rattle.std.specs.declared.option.Option.{Option}
 use Rattle.std.specs.declared.option.Option.the-variants.{Some, None}
-use Rattle.account.specs.Ears.{Hearing, address-in, Told, refused, idle, frame, faulty, silence-tells}
+use Rattle.account.specs.Listening.{Listening, address-in, Told, refused, idle, frame, faulty, silence-tells}
 
 -- 0 to 9 and A to F
 abbrev pub hex-digit : ℕ → ℕ
@@ -42,7 +42,7 @@ silence-text (frame os) = codes "silence: frame, " ++ (decimal (length os) ++ (c
 silence-text (faulty f) = codes "silence: " ++ (fault-text f ++ codes ", nothing sent")
 
 -- what is told of a line of a script, by its number and its text; nothing of a blank one
-abbrev pub account-of : ℕ → List ℕ → Hearing → Said → Option (List ℕ)
+abbrev pub account-of : ℕ → List ℕ → Listening → Said → Option (List ℕ)
 account-of n text h blank = None
 account-of n text h (station a) = Some (codes "station: " ++ decimal (address-in a))
 account-of n text h (octets cs) = Some (codes "octets: " ++ decimal (length cs))

@@ -1,9 +1,9 @@
 // A station that only listens, and the account of what it hears.
-mod ear;
-mod listen;
 mod lines;
+mod listen;
+mod state;
 mod texts;
 
-pub use ear::Ear;
-pub use ear::Heard;
 pub use lines::play;
+pub use state::Heard;
+pub use state::Listener;

@@ -3,7 +3,7 @@ ghost use lib.Chars.{codes};
 ghost use mathlib.Core.Bool.{cond};
 ghost use mathlib.Core.List.{_++_};
 ghost use mathlib.Core.Path.{_≡_};
-ghost use Rattle.account.specs.Ears.{hearing-of, next};
+ghost use Rattle.account.specs.Listening.{listening-of, next};
 ghost use Rattle.account.specs.Texts.{account-of};
 ghost use Rattle.script.specs.Lines.{said, line-said};
 ghost use Rattle.std.specs.Of.String.{string-bytes};
@@ -12,7 +12,7 @@ ghost use Rattle.std.specs.Options.{mapped};
 ghost use Rattle.std.specs.Results.{isOk};
 ghost use Rattle.std.specs.Vec.{made};
 ghost use Rattle.std.specs.Written.{decimal};
-use crate::ear::Ear;
+use crate::state::Listener;
 use crate::listen::address_in;
 use crate::texts::silence_text;
 use script::Line;
@@ -42,26 +42,26 @@ fn unknown_text(heap: Global, number: usize, text: &[u8]) -> Result<Vec<u8>, All
 }
 
 // What is told of a line.
-fn account(heap: Global, ear: &Ear, number: usize, text: &[u8], line: &Line) -> Result<Option<Vec<u8>>, AllocError>
-    ensures { λ r. ⌜ made r (λ o. mapped (λ v. vec-items v) o ≡ account-of number (now (text .entry)) (hearing-of (now (ear .entry))) (said (now (line .entry)))) ⌝ }
+fn account(heap: Global, listener: &Listener, number: usize, text: &[u8], line: &Line) -> Result<Option<Vec<u8>>, AllocError>
+    ensures { λ r. ⌜ made r (λ o. mapped (λ v. vec-items v) o ≡ account-of number (now (text .entry)) (listening-of (now (listener .entry))) (said (now (line .entry)))) ⌝ }
 {
     match line {
         Line::Blank => Ok(None),
         Line::Station(address) => Ok(Some(station_text(heap, address_in(*address))?.into_bytes())),
         Line::Octets(characters) => Ok(Some(octets_text(heap, characters.len())?.into_bytes())),
-        Line::Silence(room) => Ok(Some(silence_text(heap, &ear.heard(*room))?.into_bytes())),
+        Line::Silence(room) => Ok(Some(silence_text(heap, &listener.heard(*room))?.into_bytes())),
         Line::Unknown => Ok(Some(unknown_text(heap, number, text)?)),
     }
 }
 
-impl Ear {
+impl Listener {
     // What a line does.
     fn take(&mut self, line: &Line)
-        ensures { λ _. ⌜ hearing-of (now (self .exit)) ≡ next (hearing-of (now (self .entry))) (said (now (line .entry))) ⌝ }
+        ensures { λ _. ⌜ listening-of (now (self .exit)) ≡ next (listening-of (now (self .entry))) (said (now (line .entry))) ⌝ }
     {
         match line {
             Line::Blank => {}
-            Line::Station(address) => *self = Ear::open(*address),
+            Line::Station(address) => *self = Listener::open(*address),
             Line::Octets(characters) => self.octets(characters.as_slice()),
             Line::Silence(room) => self.silence(*room),
             Line::Unknown => {}
@@ -71,12 +71,12 @@ impl Ear {
 
 /// One line of a script, by its number and its text: what is told of it, with the station then as the line leaves it. Where
 /// memory is wanting the station stays as it was.
-pub fn play(heap: Global, ear: &mut Ear, number: usize, text: &[u8]) -> Result<Option<Vec<u8>>, AllocError>
-    ensures told { λ r. ⌜ made r (λ o. mapped (λ v. vec-items v) o ≡ account-of number (now (text .entry)) (hearing-of (now (ear .entry))) (line-said (now (text .entry)))) ⌝ }
-    ensures after { λ r. ⌜ hearing-of (now (ear .exit)) ≡ cond (isOk r) (next (hearing-of (now (ear .entry))) (line-said (now (text .entry)))) (hearing-of (now (ear .entry))) ⌝ }
+pub fn play(heap: Global, listener: &mut Listener, number: usize, text: &[u8]) -> Result<Option<Vec<u8>>, AllocError>
+    ensures told { λ r. ⌜ made r (λ o. mapped (λ v. vec-items v) o ≡ account-of number (now (text .entry)) (listening-of (now (listener .entry))) (line-said (now (text .entry)))) ⌝ }
+    ensures after { λ r. ⌜ listening-of (now (listener .exit)) ≡ cond (isOk r) (next (listening-of (now (listener .entry))) (line-said (now (text .entry)))) (listening-of (now (listener .entry))) ⌝ }
 {
     let line = parse(heap, text)?;
-    let told = account(heap, ear, number, text, &line)?;
-    ear.take(&line);
+    let told = account(heap, listener, number, text, &line)?;
+    listener.take(&line);
     Ok(told)
 }

@@ -1,10 +1,10 @@
 // The calls of a station that only listens.
 ghost use mathlib.Core.Path.{_≡_};
-ghost use Rattle.account.specs.Ears.{hearing, hearing-of, opened, address-in, passed, told, silence-tells, silence-leaves};
+ghost use Rattle.account.specs.Listening.{listening, listening-of, opened, address-in, passed, told, silence-tells, silence-leaves};
 ghost use Rattle.line.specs.Burst.{more};
 ghost use Rattle.line.specs.Line.{reception};
-use crate::ear::Ear;
-use crate::ear::Heard;
+use crate::state::Listener;
+use crate::state::Heard;
 use line::Character;
 use line::FaultFromLine;
 use line::Reception;
@@ -22,24 +22,24 @@ pub(crate) fn address_in(address: u32) -> u8
     }
 }
 
-impl Ear {
+impl Listener {
     /// A station just opened at an address.
-    pub fn open(address: u32) -> Ear
-        ensures { λ r. ⌜ hearing-of r ≡ opened address ⌝ }
+    pub fn open(address: u32) -> Listener
+        ensures { λ r. ⌜ listening-of r ≡ opened address ⌝ }
     {
-        Ear { address: address_in(address), receiver: Receiver::new() }
+        Listener { address: address_in(address), receiver: Receiver::new() }
     }
 
     /// Characters off the wire.
     pub fn octets(&mut self, characters: &[Character])
-        ensures { λ _. ⌜ hearing-of (now (self .exit)) ≡ hearing (now (self .entry) .address) (more (hearing-of (now (self .entry)) .burst) (now (characters .entry))) ⌝ }
+        ensures { λ _. ⌜ listening-of (now (self .exit)) ≡ listening (now (self .entry) .address) (more (listening-of (now (self .entry)) .burst) (now (characters .entry))) ⌝ }
     {
         self.receiver.characters(characters);
     }
 
     /// What a silence with an answer buffer of `room` octets tells.
     pub fn heard(&self, room: u32) -> Heard<'_>
-        ensures { λ r. ⌜ told r ≡ silence-tells (hearing-of (now (self .entry))) room ⌝ }
+        ensures { λ r. ⌜ told r ≡ silence-tells (listening-of (now (self .entry))) room ⌝ }
     {
         if room < 32 {
             return Heard::Refused(Cause::ShortBuffer);
@@ -53,14 +53,14 @@ impl Ear {
 
     // The burst under way, as the line takes it.
     fn received(&self) -> Result<Reception, Fault>
-        ensures { λ r. ⌜ r ≡ passed (reception (now (self .entry) .address) (hearing-of (now (self .entry)) .burst)) ⌝ }
+        ensures { λ r. ⌜ r ≡ passed (reception (now (self .entry) .address) (listening-of (now (self .entry)) .burst)) ⌝ }
     {
         Ok(self.receiver.reception(self.address)?)
     }
 
     /// The silence itself: it ends the burst, unless it is refused.
     pub fn silence(&mut self, room: u32)
-        ensures { λ _. ⌜ hearing-of (now (self .exit)) ≡ silence-leaves (hearing-of (now (self .entry))) room ⌝ }
+        ensures { λ _. ⌜ listening-of (now (self .exit)) ≡ silence-leaves (listening-of (now (self .entry))) room ⌝ }
     {
         if room >= 32 {
             self.receiver.clear();

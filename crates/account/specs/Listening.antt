@@ -15,25 +15,25 @@ use Rattle.line.specs.declared.words.Reception.{Reception}
 use Rattle.line.specs.Burst.{Burst, no-burst, more, burst-of}
 use Rattle.line.specs.Line.{reception}
 use Rattle.script.specs.Lines.{Said, blank, station, octets, silence, unknown}
-use Rattle.account.specs.declared.ear.Ear.{Ear}
-use Rattle.account.specs.declared.ear.Heard.{Heard}
+use Rattle.account.specs.declared.state.Listener.{Listener}
+use Rattle.account.specs.declared.state.Heard.{Heard}
 
-pub record Hearing : Type 0 where
+pub record Listening : Type 0 where
   pub address : ℕ
   pub burst : Burst
 
-abbrev pub hearing : ℕ → Burst → Hearing
-hearing address burst = record { address = address; burst = burst }
+abbrev pub listening : ℕ → Burst → Listening
+listening address burst = record { address = address; burst = burst }
 
-abbrev pub hearing-of : Ear → Hearing
-hearing-of e = hearing (e .address) (burst-of (e .receiver))
+abbrev pub listening-of : Listener → Listening
+listening-of l = listening (l .address) (burst-of (l .receiver))
 
 -- an address outside 1 to 247 becomes 247
 abbrev pub address-in : ℕ → ℕ
 address-in a = cond (eqb a 0 || ltb 247 a) 247 a
 
-abbrev pub opened : ℕ → Hearing
-opened a = hearing (address-in a) no-burst
+abbrev pub opened : ℕ → Listening
+opened a = listening (address-in a) no-burst
 
 -- what a silence tells
 pub data Told : Type 0 where
@@ -63,17 +63,17 @@ received b (Err f) = faulty f
 abbrev pub is-short : ℕ → Bool
 is-short room = ltb room 32
 
-abbrev pub silence-tells : Hearing → ℕ → Told
+abbrev pub silence-tells : Listening → ℕ → Told
 silence-tells h room = cond (is-short room) (refused Cause.ShortBuffer) (received (h .burst) (passed (reception (h .address) (h .burst))))
 
 -- a refused silence changes nothing, any other ends the burst
-abbrev pub silence-leaves : Hearing → ℕ → Hearing
-silence-leaves h room = cond (is-short room) h (hearing (h .address) no-burst)
+abbrev pub silence-leaves : Listening → ℕ → Listening
+silence-leaves h room = cond (is-short room) h (listening (h .address) no-burst)
 
 -- after a line of a script
-abbrev pub next : Hearing → Said → Hearing
+abbrev pub next : Listening → Said → Listening
 next h blank = h
 next h (station a) = opened a
-next h (octets cs) = hearing (h .address) (more (h .burst) cs)
+next h (octets cs) = listening (h .address) (more (h .burst) cs)
 next h (silence room) = silence-leaves h room
 next h unknown = h

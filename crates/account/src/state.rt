@@ -5,7 +5,7 @@ use outcome::Fault;
 
 /// Its address, and the burst under way.
 #[derive(Drop)]
-pub struct Ear {
+pub struct Listener {
     pub(crate) address: u8,
     pub(crate) receiver: Receiver,
 }
