@@ -15,10 +15,11 @@ use Rattle.std.specs.shelf.Lists.{All, folded, leading}
 use Rattle.std.specs.shelf.Text.{sameBytes}
 use Rattle.line.specs.declared.words.Character.{Character}
 use Rattle.line.specs.declared.words.Parity.{Parity}
+use Rattle.line.specs.Burst.{good}
 use Rattle.script.specs.Words.{is-blank, is-plain, uncommented, ended, words-from}
 use Rattle.script.specs.Numbers.{paired, character-in}
 use Rattle.script.specs.Numbers as read
-use Rattle.script.specs.Lines.{good, with-word, octets, octets-said, call-said, line-said}
+use Rattle.script.specs.Lines.{with-word, octets, octets-said, call-said, line-said}
 use Rattle.account.specs.Texts.{hex-digit, hex-octet, hex-octets}
 
 -- a written digit is above every mark that a script knows, and is read as what it was written for

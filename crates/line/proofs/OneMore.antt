@@ -10,22 +10,24 @@ use lib.ListN.{length, take, set}
 use lib.Seq.{length-take-le}
 use Rattle.std.proofs.shelf.Lists.{take-more-set}
 use Rattle.line.specs.declared.words.Parity.{Parity}
-use Rattle.line.specs.Burst.{Burst, one-more}
+use Rattle.line.specs.declared.kept.Receiver.{Receiver}
+use Rattle.line.specs.Burst.{Burst, one-more, burst-of}
 
 abbrev burst : List ℕ → List Parity → Bool → Burst
 burst os ms over = record { octets = os; marks = ms; overlong = over }
 
-module _ (os : List ℕ) (ms : List Parity) (n o : ℕ) (p : Parity) (over : Bool) (os-long : length os ≡ 256) where
-  pub kept : length ms ≡ 256 → n < 256 → burst (take (n + 1) (set os n o)) (take (n + 1) (set ms n p)) over ≡ one-more (burst (take n os) (take n ms) over) o p
+module _ (r : Receiver) (o : ℕ) (p : Parity) (os-long : length (r .octets) ≡ 256) where
+  pub kept : length (r .marks) ≡ 256 → r .length < 256
+      → burst (take (r .length + 1) (set (r .octets) (r .length) o)) (take (r .length + 1) (set (r .marks) (r .length) p)) (r .overlong) ≡ one-more (burst-of r) o p
   kept ms-long room =
-      let short : length (take n os) < 256 = omega (arith, length-take-le n os (omega arith)) in
-      let fits : ltb (length (take n os)) 256 ≡ true = lt-ltb _ _ short in
-      let octets : take (n + 1) (set os n o) ≡ take n os ++ (o ∷ []) = take-more-set os n o (omega arith) in
-      let marks : take (n + 1) (set ms n p) ≡ take n ms ++ (p ∷ []) = take-more-set ms n p (omega arith) in
+      let short : length (take (r .length) (r .octets)) < 256 = omega (arith, length-take-le (r .length) (r .octets) (omega arith)) in
+      let fits : ltb (length (take (r .length) (r .octets))) 256 ≡ true = lt-ltb _ _ short in
+      let octets : take (r .length + 1) (set (r .octets) (r .length) o) ≡ take (r .length) (r .octets) ++ (o ∷ []) = take-more-set (r .octets) (r .length) o (omega arith) in
+      let marks : take (r .length + 1) (set (r .marks) (r .length) p) ≡ take (r .length) (r .marks) ++ (p ∷ []) = take-more-set (r .marks) (r .length) p (omega arith) in
       rw (fits, octets, marks)
 
-  pub not-kept : n ≡ 256 → burst (take n os) (take n ms) true ≡ one-more (burst (take n os) (take n ms) over) o p
+  pub not-kept : r .length ≡ 256 → burst (take (r .length) (r .octets)) (take (r .length) (r .marks)) true ≡ one-more (burst-of r) o p
   not-kept full =
-      let long : 256 ≤ length (take n os) = omega (arith, length-take-le n os (omega arith)) in
-      let fails : ltb (length (take n os)) 256 ≡ false = le-ltb _ _ long in
+      let long : 256 ≤ length (take (r .length) (r .octets)) = omega (arith, length-take-le (r .length) (r .octets) (omega arith)) in
+      let fails : ltb (length (take (r .length) (r .octets))) 256 ≡ false = le-ltb _ _ long in
       rw fails

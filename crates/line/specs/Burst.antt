@@ -37,6 +37,10 @@ whole-burst cs = record {
     overlong = ltb 256 (length cs)
   }
 
+-- an octet that came with the parity that it should have
+abbrev pub good : ℕ → Character
+good o = record { value = o; parity = Parity.Good }
+
 -- the burst that a receiver holds
 abbrev pub burst-of : Receiver → Burst
 burst-of r = record { octets = take (r .length) (r .octets); marks = take (r .length) (r .marks); overlong = r .overlong }

@@ -1,13 +1,12 @@
 -- A frame put together.
 use Prim.Native.Nat.{ℕ, _+_}
-use mathlib.Core.List.{List, _++_}
-use mathlib.Core.Bool.{cond, false}
+use mathlib.Core.List.{List, _++_, map}
+use mathlib.Core.Bool.{cond}
 use lib.Dec.{ltb}
-use lib.ListN.{length, drop, replicate}
+use lib.ListN.{length, drop}
 use Rattle.std.specs.declared.option.Option.{Option}
 use Rattle.std.specs.declared.option.Option.the-variants.{Some, None}
-use Rattle.line.specs.declared.words.Parity.{Parity}
-use Rattle.line.specs.Burst.{Burst}
+use Rattle.line.specs.Burst.{Burst, good, whole-burst}
 use Rattle.crc.specs.Crc.{crc-of, low-first}
 
 -- octets with their CRC behind them
@@ -24,6 +23,6 @@ composed os buffer =
     cond (ltb (length buffer) (length os + 2)) (None, buffer)
       (Some (length os + 2), laid-over (with-crc os) buffer)
 
--- octets as they come undamaged
+-- the burst of octets that come undamaged
 abbrev pub undamaged : List ℕ → Burst
-undamaged os = record { octets = os; marks = replicate (length os) Parity.Good; overlong = false }
+undamaged os = whole-burst (map good os)

@@ -92,7 +92,7 @@ abbrev pub judged : {A : Type 0} → Burst → A → Option Cause → Result A L
 judged b a None = Ok a
 judged b a (Some c) = Err (line-fault b c)
 
--- no octets are idle, whatever was heard before
+-- a burst without octets is idle
 abbrev pub reception : ℕ → Burst → Result Reception LineFault
 reception address b =
     cond (eqb (length (b .octets)) 0) (Ok Reception.Idle)

@@ -9,10 +9,10 @@ ghost use Rattle.std.specs.declared.option.Option.the-variants.{None};
 use crc::crc_of;
 
 /// Writes octets and their CRC, low octet first, to the start of a buffer, and tells the frame's length. `None` where the
-/// buffer is too short: it stays as it was. From two octets on, what is written is sound where it comes undamaged.
+/// buffer is too short: it stays as it was. Of 2 to 254 octets, what is written is sound where it comes undamaged.
 pub fn compose(octets: &[u8], buffer: &mut [u8]) -> Option<usize>
     ensures value { λ r. ⌜ (r, now (buffer .exit)) ≡ composed (now (octets .entry)) (now (buffer .entry)) ⌝ }
-    ensures sound { λ _. ⌜ (2 ≤ length (now (octets .entry)) → first-failing (damage-checks (undamaged (with-crc (now (octets .entry))))) ≡ None) ⌝ }
+    ensures sound { λ _. ⌜ (2 ≤ length (now (octets .entry)) → length (now (octets .entry)) ≤ 254 → first-failing (damage-checks (undamaged (with-crc (now (octets .entry))))) ≡ None) ⌝ }
 {
     let end = octets.len();
     if buffer.len() < 2 || buffer.len() - 2 < end {

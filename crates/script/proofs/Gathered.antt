@@ -11,8 +11,9 @@ use Rattle.std.specs.declared.option.Option.the-variants.{None}
 use Rattle.std.specs.shelf.Lists.{folded}
 use Rattle.crc.specs.Crc.{crc-of, low-first}
 use Rattle.line.specs.declared.words.Character.{Character}
+use Rattle.line.specs.Burst.{good}
 use Rattle.script.specs.Words.{spelt}
-use Rattle.script.specs.Lines.{good, crc-behind, with-word}
+use Rattle.script.specs.Lines.{crc-behind, with-word}
 
 -- what is gathered from the words from the i-th on, if that much is gathered before
 abbrev pub gathered : Option (List Character) → List (RefT (List ℕ)) → ℕ → Option (List Character)

@@ -9,8 +9,8 @@ use Rattle.std.specs.Of.Vec.{vec-items}
 use Rattle.std.specs.declared.option.Option.{Option}
 use Rattle.std.specs.declared.option.Option.the-variants.{Some, None}
 use Rattle.crc.specs.Crc.{crc-of, low-first}
-use Rattle.line.specs.declared.words.Parity.{Parity}
 use Rattle.line.specs.declared.words.Character.{Character}
+use Rattle.line.specs.Burst.{good}
 use Rattle.script.specs.declared.lines.Line.{Line}
 use Rattle.script.specs.Words.{uncommented, words-of}
 use Rattle.script.specs.Numbers.{number-in, character-in}
@@ -28,9 +28,6 @@ said (Line.Station n) = station n
 said (Line.Octets cs) = octets (vec-items cs)
 said (Line.Silence n) = silence n
 said Line.Unknown = unknown
-
-abbrev pub good : ℕ → Character
-good o = record { value = o; parity = Parity.Good }
 
 -- the CRC of the octets before it, as two more
 abbrev pub crc-behind : List Character → List Character

@@ -4,12 +4,12 @@ use Rattle.line.proofs.kept.Receiver.octet.Needs as need
 
 pub returns-then-self-lt256 : need.returns-then-self-lt256
 returns-then-self-lt256 c = record {
-    burst = kept (c .args .self .now .octets) (c .args .self .now .marks) (c .args .self .now .length) (c .args .value) (c .args .parity) (c .args .self .now .overlong) (search needs) (search needs) (search needs);
+    burst = kept (c .args .self .now) (c .args .value) (c .args .parity) (search needs) (search needs) (search needs);
     memory = search needs
   }
 
 pub returns-else-self-lt256 : need.returns-else-self-lt256
 returns-else-self-lt256 c = record {
-    burst = not-kept (c .args .self .now .octets) (c .args .self .now .marks) (c .args .self .now .length) (c .args .value) (c .args .parity) (c .args .self .now .overlong) (search needs) (search needs);
+    burst = not-kept (c .args .self .now) (c .args .value) (c .args .parity) (search needs) (search needs);
     memory = search needs
   }
