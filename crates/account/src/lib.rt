@@ -1,4 +1,6 @@
 // A station that only listens, and the account of what it hears.
+#![tactic(auto)]
+
 mod lines;
 mod listen;
 mod state;

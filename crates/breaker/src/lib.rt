@@ -1,4 +1,6 @@
 // Breakers behind one interface, and two that read their contacts.
+#![tactic(auto)]
+
 mod carry;
 mod contacts;
 mod motor;

@@ -1,4 +1,6 @@
 // Worked cases against published values: prints each case's number with `ok` or `bad`.
+#![tactic(auto)]
+
 ghost use Rattle.std.specs.Prelude.{◌≡◌};
 ghost use Rattle.cases.specs.Published.{crc_agrees};
 

@@ -1,5 +1,7 @@
 // The CRC of a Modbus RTU frame: start FFFFh, polynomial A001h shifted right, low octet sent first.
 // One step for each octet, from a table of what eight single-bit steps make of each octet value.
+#![tactic(auto)]
+
 ghost use Rattle.std.specs.Prelude.{◌≡◌, ℕ, List, ◌++◌};
 ghost use Rattle.crc.specs.Crc.{octet_step, crc_from, crc_of, low_first};
 

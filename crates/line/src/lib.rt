@@ -1,4 +1,6 @@
 // The line: octets off the wire are kept until a silence ends the burst, and the burst is a frame for this station or a fault.
+#![tactic(auto)]
+
 mod check;
 mod frames;
 mod kept;

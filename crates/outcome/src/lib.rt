@@ -1,4 +1,6 @@
 // What can go wrong: every cause by name, and a fault as it is told.
+#![tactic(auto)]
+
 mod causes;
 mod faults;
 

@@ -1,4 +1,6 @@
 // The parts that a script can name: a breaker and a store of some kind, and what a panel shows of them.
+#![tactic(auto)]
+
 mod fitted;
 mod kinds;
 mod panels;

@@ -1,4 +1,6 @@
 // Plays a script of calls from standard input and prints an account of it, a line for each call.
+#![tactic(auto)]
+
 use account::{Listener, play};
 use std::io;
 use std::io::{BufRead, BufReader, Write};

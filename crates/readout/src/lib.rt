@@ -1,4 +1,6 @@
 // What a panel shows, as text.
+#![tactic(auto)]
+
 ghost use Rattle.std.specs.Prelude.{◌≡◌, ◌++◌, IfOk, string_bytes};
 ghost use Rattle.readout.specs.Readout.{position_name, hand_name, where_so, bars_text, word_text, words_text, breaker_text, store_text, state_text};
 

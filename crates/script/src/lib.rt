@@ -1,4 +1,6 @@
 // Scripts of calls: one call a line, as words of text.
+#![tactic(auto)]
+
 mod lines;
 mod numbers;
 mod texts;

@@ -1,4 +1,6 @@
 // The eleven protection settings of a breaker, and when a set of them is lawful.
+#![tactic(auto)]
+
 mod check;
 mod lawful;
 mod table;

@@ -1,4 +1,6 @@
 // Stores of the settings behind one interface, and two of them.
+#![tactic(auto)]
+
 mod battery;
 mod eeprom;
 mod image;

@@ -1,4 +1,6 @@
 // A line of text as its words, and words as numbers.
+#![tactic(auto)]
+
 mod numbers;
 mod texts;
 

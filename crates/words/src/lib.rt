@@ -1,4 +1,6 @@
 // Words of 16 bits as octets, high octet first.
+#![tactic(auto)]
+
 ghost use Rattle.std.specs.Prelude.{◌≡◌, ℕ, ◌*◌, ◌<◌, List, ◌++◌, length, slice_index};
 ghost use Rattle.words.specs.Words.{word_at, octet_at, high_first};
 
