@@ -5,7 +5,7 @@ use Rattle.readout.proofs.Pieces.{piece_more}
 use Rattle.readout.proofs.words_text.Goals as goal
 
 pub loop-word-preserved : goal.loop-word-preserved
-loop-word-preserved c = piece_more word_text c.args.words.now c.loop-word.word-index _ _ c.loop-word-test.true c.loop-word.invariant c.in-ok-text.ensures
+loop-word-preserved c = piece_more word_text c.args.words.now c.loop-word.word-index _ _ c.loop-word-test.true c.loop-word.invariant c.in_ok-text.ensures
 
 pub returns : goal.returns
 returns c = search (rules, take_all)

@@ -6,5 +6,5 @@ pub returns : goal.returns
 returns g c = record {
   told = search rules;
   after = search rules;
-  hand = carried_out _ g.met.B.Breaker.laws _ _ _ _ _ _ c.in-ok-take.ensures.told c.take.ensures.after c.tick-out.ensures.told c.tick-out.ensures.after;
+  hand = carried_out _ g.met.B.Breaker.laws _ _ _ _ _ _ c.in_ok-take.ensures.told c.take.ensures.after c.tick_out.ensures.told c.tick_out.ensures.after;
 }

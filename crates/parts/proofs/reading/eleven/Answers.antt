@@ -6,15 +6,15 @@ use Rattle.parts.proofs.reading.eleven.Goals as goal
 pub loop-i-init : goal.loop-i-init
 loop-i-init c = none_yet _ 4 11 _ refl
 
-pub returns-in-err-value : goal.returns-in-err-value
-returns-in-err-value c =
-    rw c.from-residual.ensures (one_wanting _ 4 11 c.loop-i.i c.loop-i.values c.loop-i.invariant c.loop-i-test.true
-    (sym (ap word_in c.nth-word.ensures) ∙ sym c.setting-word.ensures ∙ c.in-err-value.was))
+pub returns-in_err-value : goal.returns-in_err-value
+returns-in_err-value c =
+    rw c.from_residual.ensures (one_wanting _ 4 11 c.loop-i.i c.loop-i.values c.loop-i.invariant c.loop-i-test.true
+    (sym (ap word_in c.nth_word.ensures) ∙ sym c.setting-word.ensures ∙ c.in_err-value.was))
 
 pub loop-i-preserved : goal.loop-i-preserved
 loop-i-preserved c =
-    one_more _ 4 11 c.loop-i.i c.loop-i.values c.loop-i.invariant c.in-ok-value.value c.loop-i-test.true
-    (sym (ap word_in c.nth-word.ensures) ∙ sym c.setting-word.ensures ∙ c.in-ok-value.was)
+    one_more _ 4 11 c.loop-i.i c.loop-i.values c.loop-i.invariant c.in_ok-value.value c.loop-i-test.true
+    (sym (ap word_in c.nth_word.ensures) ∙ sym c.setting-word.ensures ∙ c.in_ok-value.was)
 
 pub returns : goal.returns
 returns c = all_gathered _ 4 11 c.loop-i.i c.loop-i.values c.loop-i.invariant c.loop-i-test.false

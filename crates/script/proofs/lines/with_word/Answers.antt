@@ -5,5 +5,5 @@ use Rattle.script.proofs.lines.with_word.Goals as goal
 
 pub returns-then-is : goal.returns-then-is
 returns-then-is c =
-    let sum = c.crc-of-characters-crc.ensures ∙ ap (λ cs. crc_of (map (λ x. x.value) cs)) c.as-slice.ensures.value in
-    rw (sym c.if-is.ensures) (ap Some (crc_pushed (vec_items c.args.characters) _ _ _ sum c.in-ok-push.ensures.items c.in-ok-push-2.ensures.items))
+    let sum = c.crc_of_characters-crc.ensures ∙ ap (λ cs. crc_of (map (λ x. x.value) cs)) c.as_slice.ensures.value in
+    rw (sym c.if-is.ensures) (ap Some (crc_pushed (vec_items c.args.characters) _ _ _ sum c.in_ok-push.ensures.items c.in_ok-push-2.ensures.items))

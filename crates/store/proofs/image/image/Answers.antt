@@ -7,10 +7,10 @@ pub loop-i-init : goal.loop-i-init
 loop-i-init c = record { size = refl; front = λ k h. absurd (omega (arith, h)) }
 
 pub loop-i-preserved : goal.loop-i-preserved
-loop-i-preserved c = one_filled (omega (arith, c.loop-i-test.true)) c.octet-at.ensures c.loop-i.invariant
+loop-i-preserved c = one_filled (omega (arith, c.loop-i-test.true)) c.octet_at.ensures c.loop-i.invariant
 
-pub slice-bounds-congruency-end : goal.slice-bounds-congruency-end
-slice-bounds-congruency-end c = omega (arith, c.loop-i.invariant.size)
+pub slice_bounds-congruency-end : goal.slice_bounds-congruency-end
+slice_bounds-congruency-end c = omega (arith, c.loop-i.invariant.size)
 
 pub returns : goal.returns
 returns c = image_made c.args.words.now (search rules) c.loop-i-test.false c.loop-i.invariant c.congruency.ensures
