@@ -2,7 +2,7 @@
 ghost use Rattle.std.specs.Prelude.{◌≡◌};
 ghost use Rattle.store.specs.Stores.{battery, kept_by_battery};
 ghost use Rattle.store.specs.Store.{kept};
-ghost use Rattle.std.proofs.Common.{rules, arith};
+ghost use Rattle.std.proofs.Common.{rules};
 
 use crate::memory::BatteryStore;
 use crate::terms::{Busy, Store};
@@ -27,7 +27,7 @@ impl Store for BatteryStore {
 
     ghost terms = { battery };
 
-    ghost laws = { first_of (Prim.search rules, Prim.grind (arith, Self.row.coded.inj)) };
+    ghost laws = { Prim.search rules };
 
     fn settings(&self) -> Settings {
         Settings { words: self.words }

@@ -2,7 +2,7 @@
 ghost use Rattle.std.specs.Prelude.{◌≡◌, ℕ, ◌≤◌, List, length};
 ghost use Rattle.store.specs.Stores.{eeprom, kept_by_eeprom, opened, eight_at};
 ghost use Rattle.store.specs.Laws.{ReadAfter, Recalled, DamageSeen};
-ghost use Rattle.std.proofs.Common.{rules, arith};
+ghost use Rattle.std.proofs.Common.{rules};
 
 use crate::image::{congruency, image, words_in};
 use crate::memory::EepromStore;
@@ -60,7 +60,7 @@ impl Store for EepromStore {
 
     ghost terms = { eeprom };
 
-    ghost laws = { first_of (Prim.search rules, Prim.grind (arith, Self.row.coded.inj)) };
+    ghost laws = { Prim.search rules };
 
     fn settings(&self) -> Settings {
         Settings { words: self.words }

@@ -7,7 +7,7 @@ use Rattle.store.proofs.memory.EepromStore.open.Goals as goal
 
 pub returns : goal.returns
 returns c =
-    let after : _ ≡ opened c.args.octets = rw (c.words-in-words.ensures, c.congruency.ensures) in
+    let after : _ ≡ opened c.args.octets = rw (c.words_in-words.ensures, c.congruency.ensures) in
     record {
       after = after;
       held = refl;
