@@ -64,10 +64,8 @@ impl Contacts {
     pub(crate) fn new(word: u32) -> Contacts
         ensures { result ≡ started word }
     {
-        Contacts {
-            word,
-            hand: Hand::Empty,
-        }
+        let hand = Hand::Empty;
+        Contacts { word, hand }
     }
 
     pub(crate) fn take(&mut self, barred: bool, order: Order) -> Result<(), NotTaken>

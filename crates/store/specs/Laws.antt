@@ -1,5 +1,5 @@
 -- What an EEPROM store holds on the three ticks after a put.
-use Rattle.std.specs.Prelude.{◌≡◌, ℕ, zero, suc, ◌*◌, ◌<◌, ◌≤◌, true, false, cond, List, length, set, ◌≢◌, nat_lt, slice_index, slice_set}
+use Rattle.std.specs.Prelude.{◌≡◌, ℕ, zero, suc, ◌*◌, ◌<◌, ◌≤◌, true, false, cond, List, length, ◌≢◌, nat_lt, slice_index, slice_set}
 use Rattle.store.specs.Store.{Kept, kept, ticked, StoreTerms}
 use Rattle.store.specs.Stores.{eeprom, image, opened}
 
