@@ -55,6 +55,8 @@ def foreign(text):
 
 
 def new_name(name):
+    if name in JOINED.values():
+        return name
     return JOINED.get(name, name.replace("-", "_"))
 
 
