@@ -44,11 +44,9 @@ pub fn crc_from(remainder: u16, octets: &[u8]) -> u16
     ensures joined { (start : ℕ) (before : List ℕ) → remainder ≡ crc_from start before → result ≡ crc_from start (before ++ octets.now) }
     ensures closes { crc_from remainder (octets.now ++ low_first result) ≡ 0 }
 {
-    let mut r = remainder;
-    for octet in octets {
-        r = octet_step(r, *octet);
-    }
-    r
+    octets
+        .iter()
+        .fold(remainder, |r, octet| octet_step(r, *octet))
 }
 
 /// The CRC of a frame's octets.

@@ -1,14 +1,13 @@
--- Checks that are tried one after the other: the first that fails gives the cause.
+-- Checks that are tried one after the other: the first that fails tells what is wrong.
 use Rattle.std.specs.Prelude.{Bool, cond, List, [], ◌∷◌, Some, None, Option}
-use Rattle.outcome.specs.declared.causes.Cause.{Cause}
 
-pub record Check : Type 0 where
+pub record Check (A : Type 0) : Type 0 where
   pub fails : Bool
-  pub cause : Cause
+  pub tells : A
 
-abbrev pub check : Bool → Cause → Check
-check fails cause = record { fails = fails; cause = cause }
+abbrev pub check : {A : Type 0} → Bool → A → Check A
+check fails tells = record { fails = fails; tells = tells }
 
-abbrev pub first_failing : List Check → Option Cause
+abbrev pub first_failing : {A : Type 0} → List (Check A) → Option A
 first_failing [] = None
-first_failing (c ∷ cs) = cond c.fails (Some c.cause) (first_failing cs)
+first_failing (c ∷ cs) = cond c.fails (Some c.tells) (first_failing cs)

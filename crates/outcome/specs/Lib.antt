@@ -1,3 +1,4 @@
 pub mod Causes
 pub mod Laws
 pub mod Checks
+pub mod Texts

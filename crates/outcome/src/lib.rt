@@ -3,6 +3,7 @@
 
 mod causes;
 mod faults;
+mod texts;
 
 pub use causes::{Cause, Layer};
 pub use faults::Fault;

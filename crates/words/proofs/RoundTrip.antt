@@ -36,6 +36,6 @@ words_back ws rest n h =
     ∙ word_back ws rest k (omega (arith, l, same, h))
     ∙ get_or_default ws k 0 d (omega (arith, l, same, h)))
 
--- both promises on a word that is read
-pub read_back : {os : List ℕ} {i r : ℕ} → r ≡ word_at os i → record { value : r ≡ word_at os i; back : (ws rest : List ℕ) (j : ℕ) → os ≡ high_first ws ++ rest → i ≡ 2 * j → j < length ws → r ≡ get_or ws j 0 }
-read_back e = record { value = e; back = λ ws rest j p q h. e ∙ rw (p, q) (word_back ws rest j h) }
+-- of a word that is read
+pub read_back : {os : List ℕ} {i r : ℕ} → r ≡ word_at os i → (ws rest : List ℕ) (j : ℕ) → os ≡ high_first ws ++ rest → i ≡ 2 * j → j < length ws → r ≡ get_or ws j 0
+read_back e ws rest j p q h = e ∙ rw (p, q) (word_back ws rest j h)

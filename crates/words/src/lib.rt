@@ -9,28 +9,17 @@ pub fn word_at(octets: &[u8], place: usize) -> u16
     ensures value { result ≡ word_at octets.now place }
     ensures back { (ws rest : List ℕ) (j : ℕ) → octets.now ≡ high_first ws ++ rest → place ≡ 2 * j → j < length ws → result ≡ slice_index ws j }
 {
-    if place >= octets.len() {
-        return 0;
-    }
-    let low = if place + 1 < octets.len() {
-        octets[place + 1]
-    } else {
-        0
-    };
-    256 * u16::from(octets[place]) + u16::from(low)
+    let high = octets.get(place).copied().unwrap_or(0);
+    let low = octets.get(place.saturating_add(1)).copied().unwrap_or(0);
+    u16::from_be_bytes([high, low])
 }
 
 /// The octet at a place of words that stand behind one another. Words that are wanting count as 0.
 pub fn octet_at(words: &[u16], place: usize) -> u8
     ensures { result ≡ octet_at words.now place }
 {
-    if place / 2 >= words.len() {
-        return 0;
-    }
-    let word = words[place / 2];
-    if place % 2 == 0 {
-        (word / 256) as u8
-    } else {
-        (word % 256) as u8
+    match words.get(place / 2) {
+        Some(word) => word.to_be_bytes()[place % 2],
+        None => 0,
     }
 }
