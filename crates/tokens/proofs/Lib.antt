@@ -1,3 +1,3 @@
 pub mod Cut
 pub mod Digits
-pub mod Spelled
+pub mod Gathering

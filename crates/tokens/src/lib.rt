@@ -1,8 +1,9 @@
 // A line of text as its words, and words as numbers.
 #![tactic(auto)]
 
+mod gather;
 mod numbers;
 mod texts;
 
-pub use numbers::{hex_octet, number};
-pub use texts::{is, nth_word, uncommented, word_count, words};
+pub use numbers::{hex_octet, hex_octets, number, word_values};
+pub use texts::{uncommented, words};

@@ -1,6 +1,9 @@
 // Words that are numbers.
 ghost use Rattle.std.specs.Prelude.{◌≡◌};
-ghost use Rattle.tokens.specs.Numbers.{number_in, hex_digit, hex_octet};
+ghost use Rattle.tokens.specs.Numbers.{number_in, hex_digit, hex_octet, hex_octets, word_value, word_values};
+ghost use Rattle.tokens.specs.Words.{spelt};
+
+use crate::gather::gather;
 
 /// The number that a word of decimal digits is, up to 99,999.
 pub fn number(word: &[u8]) -> Option<u32>
@@ -11,7 +14,7 @@ pub fn number(word: &[u8]) -> Option<u32>
     }
     let mut n = 0u32;
     for c in word {
-        if *c < b'0' || *c > b'9' || n >= 10_000 {
+        if !c.is_ascii_digit() || n >= 10_000 {
             return None;
         }
         n = 10 * n + u32::from(*c - b'0');
@@ -22,22 +25,42 @@ pub fn number(word: &[u8]) -> Option<u32>
 fn hex_digit(c: u8) -> Option<u8>
     ensures { result ≡ hex_digit c }
 {
-    match c {
-        b'0'..=b'9' => Some(c - 48),
-        b'A'..=b'F' => Some(c - 55),
-        b'a'..=b'f' => Some(c - 87),
-        _ => None,
-    }
+    let digit = char::from(c).to_digit(16)?;
+    u8::try_from(digit).ok()
 }
 
 /// The octet whose two hexadecimal digits stand at this place and the next.
 pub fn hex_octet(text: &[u8], place: usize) -> Option<u8>
     ensures { result ≡ hex_octet text.now place }
 {
-    if text.len() < 2 || place > text.len() - 2 {
+    let high = hex_digit(*text.get(place)?)?;
+    let low = hex_digit(*text.get(place.saturating_add(1))?)?;
+    Some(16 * high + low)
+}
+
+/// So many octets, where a word is their hexadecimal digits, two for each.
+pub fn hex_octets<const N: usize>(word: &[u8]) -> Option<[u8; N]>
+    ensures { result ≡ hex_octets N word.now }
+{
+    if word.len() / 2 != N || word.len() % 2 != 0 {
         return None;
     }
-    let high = hex_digit(text[place])?;
-    let low = hex_digit(text[place + 1])?;
-    Some(16 * high + low)
+    gather(0, |i| hex_octet(word, 2 * i))
+}
+
+// A number that fits in a register.
+fn word_value(word: &[u8]) -> Option<u16>
+    ensures { result ≡ word_value word.now }
+{
+    u16::try_from(number(word)?).ok()
+}
+
+/// So many values of registers, where the words are their numbers, one for each.
+pub fn word_values<const N: usize>(words: &[&[u8]]) -> Option<[u16; N]>
+    ensures { result ≡ word_values N (spelt words.now) }
+{
+    if words.len() != N {
+        return None;
+    }
+    gather(0, |i| word_value(words[i]))
 }
