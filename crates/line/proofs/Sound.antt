@@ -3,7 +3,7 @@ use Rattle.std.proofs.Common.{◌≡◌, ℕ, zero, suc, ◌+◌, ◌-◌, ◌*�
 use Rattle.std.proofs.lemmas.List.{length-replicate, length-map, take_all, take_at, get_or_at, get_or-append-add}
 use Rattle.crc.specs.Crc.{crc_of, low_first}
 use Rattle.outcome.specs.Checks.{first_failing}
-use Rattle.line.specs.declared.words.Parity.{Parity}
+use Rattle.line.specs.declared.characters.Parity.{Parity}
 use Rattle.line.specs.Line.{good_marks, crc_fits, damage_checks}
 use Rattle.line.specs.Burst.{Burst, good}
 use Rattle.line.specs.Compose.{with_crc, undamaged}

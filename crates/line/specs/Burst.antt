@@ -1,8 +1,7 @@
 -- The burst under way: the octets since the last silence.
 use Rattle.std.specs.Prelude.{ℕ, Bool, true, false, cond, List, [], ◌∷◌, ◌++◌, map, length, take, fold, nat_lt}
-use Rattle.line.specs.declared.words.Parity.{Parity}
-use Rattle.line.specs.declared.words.Character.{Character}
-use Rattle.line.specs.declared.kept.Receiver.{Receiver}
+use Rattle.line.specs.declared.characters.Parity.{Parity}
+use Rattle.line.specs.declared.characters.Character.{Character}
 
 -- the octets kept, the parity mark of each, and whether more came than are kept
 pub record Burst : Type 0 where
@@ -14,15 +13,15 @@ abbrev pub no_burst : Burst
 no_burst = record { octets = []; marks = []; overlong = false }
 
 -- the first 256 octets are kept with their marks, later ones only make the burst overlong
-abbrev pub one_more : Burst → ℕ → Parity → Burst
-one_more b o p =
+abbrev pub one_more : Burst → Character → Burst
+one_more b c =
     cond (nat_lt (length b.octets) 256)
-    (record { octets = b.octets ++ (o ∷ []); marks = b.marks ++ (p ∷ []); overlong = b.overlong })
+    (record { octets = b.octets ++ (c.value ∷ []); marks = b.marks ++ (c.parity ∷ []); overlong = b.overlong })
     (record { octets = b.octets; marks = b.marks; overlong = true })
 
 -- a burst after further characters
 abbrev pub more : Burst → List Character → Burst
-more b cs = fold (λ b c. one_more b c.value c.parity) b cs
+more b cs = fold one_more b cs
 
 -- the burst of these characters from its beginning on
 abbrev pub whole_burst : List Character → Burst
@@ -35,7 +34,3 @@ whole_burst cs = record {
 -- an octet that came with the parity that it should have
 abbrev pub good : ℕ → Character
 good o = record { value = o; parity = Parity.Good }
-
--- the burst that a receiver holds
-abbrev pub burst_of : Receiver → Burst
-burst_of r = record { octets = take r.length r.octets; marks = take r.length r.marks; overlong = r.overlong }

@@ -1,4 +1,5 @@
 pub mod Burst
 pub mod Memory
+pub mod Frames
 pub mod Line
 pub mod Compose

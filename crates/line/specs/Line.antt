@@ -5,10 +5,10 @@ use Rattle.crc.specs.Crc.{crc_of}
 use Rattle.outcome.specs.declared.causes.Cause.{Cause}
 use Rattle.outcome.specs.Causes.{Points, place_of}
 use Rattle.outcome.specs.Checks.{Check, check, first_failing}
-use Rattle.line.specs.declared.words.Parity.{Parity}
-use Rattle.line.specs.declared.words.Frame.{Frame}
-use Rattle.line.specs.declared.words.Reception.{Reception}
-use Rattle.line.specs.declared.words.LineFault.{LineFault}
+use Rattle.line.specs.declared.characters.Parity.{Parity}
+use Rattle.line.specs.declared.faults.LineFault.{LineFault}
+use Rattle.line.specs.Frames.{address_of, function_of, is_broadcast}
+use Rattle.words.specs.Words.{word_at}
 use Rattle.line.specs.Burst.{Burst}
 
 abbrev pub is_good : Parity → Bool
@@ -18,20 +18,6 @@ is_good Parity.Bad = false
 -- how many octets come before the first whose parity is bad
 abbrev pub good_marks : List Parity → ℕ
 good_marks ps = prefix_len is_good ps
-
-abbrev pub address_of : List ℕ → ℕ
-address_of os = slice_index os 0
-
-abbrev pub function_of : List ℕ → ℕ
-function_of os = slice_index os 1
-
--- a word in octets: high octet first
-abbrev pub word_at : List ℕ → ℕ → ℕ
-word_at os i = 256 * slice_index os i + slice_index os (i + 1)
-
--- 0 is the address of all stations
-abbrev pub is_broadcast : List ℕ → Bool
-is_broadcast os = address_of os == 0
 
 -- 06h and 10h write, and only they are broadcast
 abbrev pub is_write : ℕ → Bool
@@ -44,7 +30,7 @@ crc_fits os =
     (crc_of (take n os) == slice_index os n + 256 * slice_index os (n + 1))
 
 -- a burst is sound if it passes these
-abbrev pub damage_checks : Burst → List Check
+abbrev pub damage_checks : Burst → List (Check Cause)
 damage_checks b =
     let os = b.octets in
     check (nat_lt (good_marks b.marks) (length b.marks)) Cause.BadParity
@@ -54,7 +40,7 @@ damage_checks b =
     ∷ []
 
 -- a sound burst is for the station with this address if it passes these
-abbrev pub address_checks : ℕ → Burst → List Check
+abbrev pub address_checks : ℕ → Burst → List (Check Cause)
 address_checks address b =
     let os = b.octets in
     check (not (address_of os == address) && not (is_broadcast os)) Cause.OtherAddress
@@ -76,16 +62,16 @@ points_of b = record {
 abbrev pub line_fault : Burst → Cause → LineFault
 line_fault b c = record { cause = c; place = place_of (points_of b) c }
 
--- a frame is address, function, data and CRC
-abbrev pub frame_of : List ℕ → Frame
-frame_of os = record { address = address_of os; broadcast = is_broadcast os; function = 1; «data» = 2; end = length os - 2 }
+-- a frame is what stands before the CRC: address, function and data
+abbrev pub frame_of : List ℕ → List ℕ
+frame_of os = take (length os - 2) os
 
 abbrev pub judged : {A : Type 0} → Burst → A → Option Cause → Result A LineFault
 judged b a None = Ok a
 judged b a (Some c) = Err (line_fault b c)
 
--- a burst without octets is idle
-abbrev pub reception : ℕ → Burst → Result Reception LineFault
+-- a burst without octets is idle: there is no frame, and nothing is wrong
+abbrev pub reception : ℕ → Burst → Result (Option (List ℕ)) LineFault
 reception address b =
-    cond (length b.octets == 0) (Ok Reception.Idle)
-    (judged b (Reception.Frame (frame_of b.octets)) (line_check address b))
+    cond (length b.octets == 0) (Ok None)
+    (judged b (Some (frame_of b.octets)) (line_check address b))

@@ -1,11 +1,13 @@
 // The line's checks, tried downwards.
-ghost use Rattle.std.specs.Prelude.{◌≡◌, ◌≤◌, length};
-ghost use Rattle.line.specs.Burst.{burst_of};
-ghost use Rattle.line.specs.Line.{good_marks, damage_checks, address_checks, judged, reception};
+ghost use Rattle.std.specs.Prelude.{◌≡◌, ◌≤◌, length, Err};
+ghost use Rattle.line.specs.Memory.{burst_of};
+ghost use Rattle.line.specs.Line.{good_marks, damage_checks, address_checks, frame_of, judged, reception};
 ghost use Rattle.outcome.specs.Checks.{first_failing};
 
+use crate::characters::Parity;
+use crate::faults::LineFault;
 use crate::kept::Receiver;
-use crate::words::{Frame, LineFault, Parity, Reception};
+use crate::received::Frame;
 use crc::crc_of;
 use outcome::Cause;
 
@@ -13,69 +15,54 @@ use outcome::Cause;
 fn good_marks(marks: &[Parity]) -> usize
     ensures { result ≡ good_marks marks.now }
 {
-    for (i, mark) in marks.iter().enumerate() {
-        if let Parity::Bad = mark {
-            return i;
-        }
-    }
-    marks.len()
+    marks
+        .iter()
+        .take_while(|mark| **mark == Parity::Good)
+        .count()
+}
+
+fn fails<T>(cause: Cause, place: usize) -> Result<T, LineFault>
+    ensures { result ≡ Err (record { cause = cause; place = place }) }
+{
+    Err(LineFault { cause, place })
 }
 
 impl Receiver {
-    /// What the burst under way is to the station with this address.
-    pub fn reception(&self, address: u8) -> Result<Reception, LineFault>
+    /// What the burst under way is to the station with this address: a frame, or none where there are no octets.
+    pub fn reception(&self, address: u8) -> Result<Option<Frame<'_>>, LineFault>
         ensures { result ≡ reception address (burst_of self.now) }
     {
-        let octets = self.octets();
-        if octets.is_empty() {
-            return Ok(Reception::Idle);
+        if self.octets().is_empty() {
+            return Ok(None);
         }
-        self.sound()?;
+        let frame = self.sound()?;
         self.addressed(address)?;
-        let frame = Frame {
-            address: octets[0],
-            broadcast: octets[0] == 0,
-            function: 1,
-            data: 2,
-            end: octets.len() - 2,
-        };
-        Ok(Reception::Frame(frame))
+        Ok(Some(frame))
     }
 
-    // Whether the burst came undamaged.
-    fn sound(&self) -> Result<(), LineFault>
-        ensures { result ≡ judged (burst_of self.now) tt (first_failing (damage_checks (burst_of self.now))) }
+    // The frame of a burst that came undamaged.
+    fn sound(&self) -> Result<Frame<'_>, LineFault>
+        ensures { result ≡ judged (burst_of self.now) (frame_of (burst_of self.now).octets) (first_failing (damage_checks (burst_of self.now))) }
     {
-        let octets = self.octets();
-        let good = good_marks(&self.marks[0..self.length]);
-        if good < octets.len() {
-            return Err(LineFault {
-                cause: Cause::BadParity,
-                place: good,
-            });
+        let marks = self.marks();
+        let good = good_marks(marks);
+        if good < marks.len() {
+            return fails(Cause::BadParity, good);
         }
         if self.overlong {
-            return Err(LineFault {
-                cause: Cause::Overlong,
-                place: 256,
-            });
+            return fails(Cause::Overlong, 256);
         }
+        let octets = self.octets();
         if octets.len() < 4 {
-            return Err(LineFault {
-                cause: Cause::TooShort,
-                place: octets.len(),
-            });
+            return fails(Cause::TooShort, octets.len());
         }
         let [body @ .., low, high] = octets else {
-            return unreachable();
+            unreachable!();
         };
         if crc_of(body) != u16::from_le_bytes([*low, *high]) {
-            return Err(LineFault {
-                cause: Cause::WrongCrc,
-                place: body.len(),
-            });
+            return fails(Cause::WrongCrc, body.len());
         }
-        Ok(())
+        Ok(Frame::new(body))
     }
 
     // Whether a sound burst is for the station with this address.
@@ -84,19 +71,13 @@ impl Receiver {
         ensures { result ≡ judged (burst_of self.now) tt (first_failing (address_checks address (burst_of self.now))) }
     {
         let [to, function, ..] = self.octets() else {
-            return unreachable();
+            unreachable!();
         };
         if *to != address && *to != 0 {
-            return Err(LineFault {
-                cause: Cause::OtherAddress,
-                place: 0,
-            });
+            return fails(Cause::OtherAddress, 0);
         }
         if *to == 0 && *function != 0x06 && *function != 0x10 {
-            return Err(LineFault {
-                cause: Cause::BroadcastFunction,
-                place: 1,
-            });
+            return fails(Cause::BroadcastFunction, 1);
         }
         Ok(())
     }

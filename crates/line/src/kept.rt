@@ -1,7 +1,6 @@
 // The receiver's memory.
-ghost use Rattle.std.specs.Prelude.{◌≤◌};
-
-use crate::words::Parity;
+use crate::characters::Parity;
+use std::marker::Model;
 
 /// The octets of the burst under way. Only the first 256 are kept, with their marks; `overlong` tells that more came.
 #[derive(Drop)]
@@ -10,5 +9,15 @@ pub struct Receiver {
     pub(crate) marks: [Parity; 256],
     pub(crate) length: usize,
     pub(crate) overlong: bool,
-    ghost within: { length ≤ 256 },
+}
+
+impl Model for Receiver {
+    ghost use Rattle.std.specs.Prelude.{◌≤◌};
+    ghost use Rattle.line.specs.Memory.{Memory, memory};
+
+    ghost Value = { Memory };
+
+    ghost view = { λ r. memory r.octets r.marks r.length r.overlong };
+
+    ghost invariant = { λ r. r.length ≤ 256 };
 }

@@ -1,12 +1,16 @@
 // The line: octets off the wire are kept until a silence ends the burst, and the burst is a frame for this station or a fault.
 #![tactic(auto)]
 
+mod characters;
 mod check;
+mod faults;
 mod frames;
 mod kept;
 mod receive;
-mod words;
+mod received;
 
+pub use characters::{Character, Parity};
+pub use faults::LineFault;
 pub use frames::compose;
 pub use kept::Receiver;
-pub use words::{Character, Frame, LineFault, Parity, Reception};
+pub use received::Frame;

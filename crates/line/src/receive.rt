@@ -1,16 +1,16 @@
 // Octets come in, a silence empties the receiver.
-ghost use Rattle.std.specs.Prelude.{◌≡◌, take};
-ghost use Rattle.line.specs.Burst.{burst_of, more, no_burst, one_more, whole_burst};
-ghost use Rattle.line.specs.Memory.{memory_of, fresh, remembered, all_remembered, emptied};
+ghost use Rattle.std.specs.Prelude.{◌≡◌};
+ghost use Rattle.line.specs.Burst.{more, no_burst, one_more, whole_burst};
+ghost use Rattle.line.specs.Memory.{burst_of, fresh, remembered, all_remembered, emptied};
 
+use crate::characters::{Character, Parity};
 use crate::kept::Receiver;
-use crate::words::{Character, Frame, Parity};
 
 impl Receiver {
     /// A receiver begins as 256 zero octets and length 0.
     pub fn new() -> Receiver
         ensures burst { burst_of result ≡ no_burst }
-        ensures memory { memory_of result ≡ fresh }
+        ensures memory { result ≡ fresh }
     {
         Receiver {
             octets: [0; 256],
@@ -23,22 +23,22 @@ impl Receiver {
     /// A run of characters off the wire. From a burst's beginning on, what is kept of it is its first 256 octets.
     pub fn characters(&mut self, characters: &[Character])
         ensures burst { burst_of self.new ≡ more (burst_of self.old) characters.now }
-        ensures memory { memory_of self.new ≡ all_remembered (memory_of self.old) characters.now }
+        ensures memory { self.new ≡ all_remembered self.old characters.now }
         ensures whole { burst_of self.old ≡ no_burst → burst_of self.new ≡ whole_burst characters.now }
     {
         for character in characters {
-            self.octet(character.value, character.parity);
+            self.octet(*character);
         }
     }
 
     /// One character off the wire.
-    pub fn octet(&mut self, value: u8, parity: Parity)
-        ensures burst { burst_of self.new ≡ one_more (burst_of self.old) value parity }
-        ensures memory { memory_of self.new ≡ remembered (memory_of self.old) value parity }
+    pub fn octet(&mut self, character: Character)
+        ensures burst { burst_of self.new ≡ one_more (burst_of self.old) character }
+        ensures memory { self.new ≡ remembered self.old character }
     {
         if self.length < 256 {
-            self.octets[self.length] = value;
-            self.marks[self.length] = parity;
+            self.octets[self.length] = character.value;
+            self.marks[self.length] = character.parity;
             self.length += 1;
         } else {
             self.overlong = true;
@@ -48,7 +48,7 @@ impl Receiver {
     /// The burst has ended: the next octet is the first of another.
     pub fn clear(&mut self)
         ensures burst { burst_of self.new ≡ no_burst }
-        ensures memory { memory_of self.new ≡ emptied (memory_of self.old) }
+        ensures memory { self.new ≡ emptied self.old }
     {
         self.length = 0;
         self.overlong = false;
@@ -58,18 +58,13 @@ impl Receiver {
     pub fn octets(&self) -> &[u8]
         ensures { result.now ≡ (burst_of self.now).octets }
     {
-        &self.octets[0..self.length]
+        &self.octets[..self.length]
     }
 
-    /// The octets of a frame that it holds, without their CRC.
-    pub fn body(&self, frame: &Frame) -> &[u8]
-        ensures { result.now ≡ take frame.now.end (burst_of self.now).octets }
+    /// The mark of each octet kept.
+    pub(crate) fn marks(&self) -> &[Parity]
+        ensures { result.now ≡ (burst_of self.now).marks }
     {
-        let kept = self.octets();
-        if frame.end < kept.len() {
-            &kept[0..frame.end]
-        } else {
-            kept
-        }
+        &self.marks[..self.length]
     }
 }

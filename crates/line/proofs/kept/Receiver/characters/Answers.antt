@@ -1,9 +1,9 @@
 use Rattle.std.proofs.Common.{◌≡◌, [], ap, ◌∙◌, rules}
 use Rattle.std.proofs.lemmas.List.{take_all}
-use Rattle.line.specs.declared.words.Character.{Character}
-use Rattle.line.specs.declared.words.Parity.{Parity}
-use Rattle.line.specs.Burst.{burst_of, one_more, more}
-use Rattle.line.specs.Memory.{remembered}
+use Rattle.line.specs.declared.characters.Character.{Character}
+use Rattle.line.specs.declared.characters.Parity.{Parity}
+use Rattle.line.specs.Burst.{one_more, more}
+use Rattle.line.specs.Memory.{burst_of, remembered}
 use Rattle.line.proofs.Folds.{one_turn}
 use Rattle.line.proofs.Whole.{whole}
 use Rattle.line.proofs.kept.Receiver.characters.Goals as goal
@@ -14,8 +14,8 @@ loop-character-preserved c =
     let i = c.loop-character.character-index in
     let d : Character = record { value = 0; parity = Parity.Good } in
     let within = c.loop-character-test.true in (
-      one_turn (λ b x. one_more b x.value x.parity) _ _ _ cs i d within c.loop-character.invariant.0 c.octet.ensures.burst,
-      one_turn (λ m x. remembered m x.value x.parity) _ _ _ cs i d within c.loop-character.invariant.1 c.octet.ensures.memory,
+      one_turn one_more _ _ _ cs i d within c.loop-character.invariant.0 c.octet.ensures.burst,
+      one_turn remembered _ _ _ cs i d within c.loop-character.invariant.1 c.octet.ensures.memory,
     )
 
 pub returns : goal.returns
