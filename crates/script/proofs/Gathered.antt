@@ -1,12 +1,9 @@
 -- Characters gathered word by word.
-use Rattle.std.proofs.Common.{◌≡◌, ℕ, ◌+◌, ◌/◌, ◌<◌, ◌≤◌, List, [], ◌∷◌, ◌++◌, map, length, get_or, drop, None, fold, Option, sym, refl, ap, ◌∙◌, append_assoc, Bor}
-use lib.Bits.{bit_and, and_mask}
+use Rattle.std.proofs.Common.{◌≡◌, ℕ, ◌+◌, ◌<◌, ◌≤◌, List, [], ◌∷◌, length, get_or, drop, None, fold, Option, sym, refl, ap, ◌∙◌, Bor}
 use Rattle.std.proofs.lemmas.List.{at_drop_more, at_drop_all}
-use Rattle.crc.specs.Crc.{crc_of, low_first}
-use Rattle.line.specs.declared.words.Character.{Character}
-use Rattle.line.specs.Burst.{good}
-use Rattle.script.specs.Words.{spelt}
-use Rattle.script.specs.Lines.{crc_behind, with_word}
+use Rattle.line.specs.declared.characters.Character.{Character}
+use Rattle.tokens.specs.Words.{spelt}
+use Rattle.script.specs.Lines.{with_word}
 
 -- what is gathered from the words from the i-th on, if that much is gathered before
 abbrev pub gathered : Option (List Character) → List (Bor (List ℕ)) → ℕ → Option (List Character)
@@ -22,13 +19,3 @@ none_stays (w ∷ ws) = none_stays ws
 
 pub all_gathered : (o : Option (List Character)) (ws : List (Bor (List ℕ))) (i : ℕ) → length ws ≤ i → gathered o ws i ≡ o
 all_gathered o ws i h = at_drop_all (λ xs. fold with_word o (spelt xs)) ws i h
-
--- the CRC's two octets, pushed one after the other
-pub crc_pushed : (cs one two : List Character) (w : ℕ) → w ≡ crc_of (map (λ c. c.value) cs)
-    → one ≡ cs ++ (good (bit_and w 255) ∷ []) → two ≡ one ++ (good (w / 256) ∷ []) → two ≡ crc_behind cs
-crc_pushed cs one two w sum low high =
-    high
-    ∙ ap (λ xs. xs ++ (good (w / 256) ∷ [])) low
-    ∙ append_assoc cs (good (bit_and w 255) ∷ []) (good (w / 256) ∷ [])
-    ∙ ap (λ n. cs ++ (good n ∷ good (w / 256) ∷ [])) (and_mask w 8)
-    ∙ ap (λ n. cs ++ map good (low_first n)) sum

@@ -1,3 +1,2 @@
-pub mod Words
-pub mod Numbers
+pub mod Characters
 pub mod Lines

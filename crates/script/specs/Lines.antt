@@ -2,11 +2,12 @@
 use Rattle.std.specs.Prelude.{ℕ, cond, List, [], ◌∷◌, ◌++◌, map, Some, None, vec_items, codes, fold, Option}
 use Rattle.std.specs.Str.{bytes_eq}
 use Rattle.crc.specs.Crc.{crc_of, low_first}
-use Rattle.line.specs.declared.words.Character.{Character}
+use Rattle.line.specs.declared.characters.Character.{Character}
 use Rattle.line.specs.Burst.{good}
 use Rattle.script.specs.declared.lines.Line.{Line}
-use Rattle.script.specs.Words.{uncommented, words_of}
-use Rattle.script.specs.Numbers.{number_in, character_in}
+use Rattle.tokens.specs.Words.{uncommented, words_of}
+use Rattle.tokens.specs.Numbers.{number_in}
+use Rattle.script.specs.Characters.{character_in}
 
 pub data Said : Type 0 where
   blank : Said

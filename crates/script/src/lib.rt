@@ -1,8 +1,7 @@
 // Scripts of calls: one call a line, as words of text.
 #![tactic(auto)]
 
+mod characters;
 mod lines;
-mod numbers;
-mod texts;
 
 pub use lines::{Line, parse};

@@ -1,15 +1,13 @@
 // What a line of a script says.
-ghost use Rattle.std.specs.Prelude.{◌≡◌, [], map, IfOk, Some, fold};
-ghost use Rattle.crc.specs.Crc.{crc_of};
-ghost use Rattle.script.specs.Lines.{said, with_word, octets_said, lone_number, call_named, call_said, line_said};
-ghost use Rattle.script.specs.Words.{spelt};
+ghost use Rattle.std.specs.Prelude.{◌≡◌, [], IfOk, Some, fold};
 ghost use Rattle.std.specs.Option.{option_map};
+ghost use Rattle.tokens.specs.Words.{spelt};
+ghost use Rattle.script.specs.Lines.{said, with_word, octets_said, lone_number, call_named, call_said, line_said};
 
-use crate::numbers::{character, number};
-use crate::texts::{is, uncommented, words};
-use crc::crc_from;
-use line::{Character, Parity};
+use crate::characters::{character, crc_of_characters, good};
+use line::Character;
 use std::alloc::{AllocError, Global};
+use tokens::{number, uncommented, words};
 
 /// One line: a call, nothing at all, or words that are not understood.
 #[derive(Drop)]
@@ -21,16 +19,13 @@ pub enum Line {
     Unknown,
 }
 
-// The CRC of the characters' octets.
-fn crc_of_characters(characters: &[Character]) -> u16
-    ensures { result ≡ crc_of (map (λ c. c.value) characters.now) }
-{
-    let mut crc = 0xFFFF;
-    for c in characters {
-        crc = crc_from(crc, &[c.value]);
-    }
-    crc
-}
+const STATION: &[u8] = b"station";
+
+const OCTETS: &[u8] = b"octets";
+
+const SILENCE: &[u8] = b"silence";
+
+const CRC: &[u8] = b"+crc";
 
 // The characters and one word more, or nothing where the word is neither an octet nor `+crc`.
 fn with_word(
@@ -39,16 +34,10 @@ fn with_word(
 ) -> Result<Option<Vec<Character>>, AllocError>
     ensures { IfOk result (λ o. option_map (λ v. v.items) o ≡ with_word (Some characters.items) word.now) }
 {
-    if is(word, b"+crc") {
-        let crc = crc_of_characters(characters.as_slice());
-        characters.push(Character {
-            value: (crc & 0xff) as u8,
-            parity: Parity::Good,
-        })?;
-        characters.push(Character {
-            value: (crc >> 8) as u8,
-            parity: Parity::Good,
-        })?;
+    if word == CRC {
+        let [low, high] = crc_of_characters(characters.as_slice()).to_le_bytes();
+        characters.push(good(low))?;
+        characters.push(good(high))?;
         return Ok(Some(characters));
     }
     let Some(c) = character(word) else {
@@ -71,45 +60,38 @@ fn octets(heap: Global, words: &[&[u8]]) -> Result<Line, AllocError>
     Ok(Line::Octets(characters))
 }
 
+// The number where it is the only word.
+fn lone_number(words: &[&[u8]]) -> Option<u32>
+    ensures { result ≡ lone_number (spelt words.now) }
+{
+    match words {
+        [word] => number(word),
+        _ => None,
+    }
+}
+
 // The call that the first word names, with the words behind it.
 fn named(heap: Global, name: &[u8], rest: &[&[u8]]) -> Result<Line, AllocError>
     ensures { IfOk result (λ l. said l ≡ call_named name.now (spelt rest.now)) }
 {
-    if is(name, b"station") {
-        return Ok(match one_number(rest) {
-            Some(n) => Line::Station(n),
-            None => Line::Unknown,
-        });
+    if name == STATION {
+        Ok(lone_number(rest).map_or(Line::Unknown, Line::Station))
+    } else if name == OCTETS {
+        octets(heap, rest)
+    } else if name == SILENCE {
+        Ok(lone_number(rest).map_or(Line::Unknown, Line::Silence))
+    } else {
+        Ok(Line::Unknown)
     }
-    if is(name, b"octets") {
-        return octets(heap, rest);
-    }
-    if is(name, b"silence") {
-        return Ok(match one_number(rest) {
-            Some(n) => Line::Silence(n),
-            None => Line::Unknown,
-        });
-    }
-    Ok(Line::Unknown)
 }
 
 fn call(heap: Global, words: &[&[u8]]) -> Result<Line, AllocError>
     ensures { IfOk result (λ l. said l ≡ call_said (spelt words.now)) }
 {
-    if words.is_empty() {
-        return Ok(Line::Blank);
+    match words {
+        [] => Ok(Line::Blank),
+        [name, rest @ ..] => named(heap, name, rest),
     }
-    named(heap, words[0], &words[1..words.len()])
-}
-
-// The number where it is the only word.
-fn one_number(words: &[&[u8]]) -> Option<u32>
-    ensures { result ≡ lone_number (spelt words.now) }
-{
-    if words.len() != 1 {
-        return None;
-    }
-    number(words[0])
 }
 
 /// What a line of a script says.

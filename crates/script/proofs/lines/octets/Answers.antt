@@ -1,6 +1,6 @@
 use Rattle.std.proofs.Common.{◌+◌, drop, Some, None, vec_items, fold, sym, ap, ◌∙◌}
 use Rattle.std.specs.Option.{option_map}
-use Rattle.script.specs.Words.{spelt}
+use Rattle.tokens.specs.Words.{spelt}
 use Rattle.script.specs.Lines.{with_word, octets_said}
 use Rattle.script.proofs.Gathered.{word_more, none_stays, all_gathered}
 use Rattle.script.proofs.lines.octets.Goals as goal

@@ -1,5 +1,5 @@
 use Rattle.std.proofs.Common.{◌≡◌, [], drop, Some, vec_items, fold}
-use Rattle.script.specs.Words.{spelt}
+use Rattle.tokens.specs.Words.{spelt}
 use Rattle.script.specs.Lines.{with_word}
 use Rattle.script.proofs.lines.octets.Given as goal
 

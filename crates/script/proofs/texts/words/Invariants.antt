@@ -1,7 +1,0 @@
-use Rattle.std.proofs.Common.{vec_items}
-use Rattle.script.specs.Words.{spelt}
-use Rattle.script.proofs.Words.{Sofar}
-use Rattle.script.proofs.texts.words.Given as goal
-
-abbrev pub invariant-loop-i : goal.invariant-loop-i
-invariant-loop-i l = Sofar l.text (spelt (vec_items l.words)) l.start l.i
