@@ -1,15 +1,14 @@
 -- Octets as they are told can be played again: an `octets` line of them brings those octets.
-use Rattle.std.proofs.Common.{◌≡◌, ℕ, ◌+◌, ◌/◌, ◌%◌, ◌<◌, ◌≤◌, true, false, eqb, List, [], ◌∷◌, ◌++◌, map, length, Some, codes, fold, sym, refl, ap, ◌∙◌, ap₂, append_assoc, append-nil, arith, ne_eqb}
+use Rattle.std.proofs.Common.{◌≡◌, ℕ, ◌+◌, ◌/◌, ◌%◌, ◌<◌, ◌≤◌, true, false, eqb, List, [], ◌∷◌, ◌++◌, map, length, Some, codes, fold, sym, refl, ap, ◌∙◌, append_assoc, append-nil, arith, ne_eqb}
 use Rattle.std.proofs.lemmas.List.{take_all}
 use Rattle.std.proofs.lemmas.Bool.Decides.{nat_tests}
 use Rattle.std.specs.List.{prefix_len, AllByRecursion as All}
 use Rattle.std.specs.Str.{bytes_eq}
-use Rattle.line.specs.declared.words.Character.{Character}
-use Rattle.line.specs.declared.words.Parity.{Parity}
+use Rattle.line.specs.declared.characters.Character.{Character}
 use Rattle.line.specs.Burst.{good}
-use Rattle.script.specs.Words.{is_blank, is_plain, uncommented, ended, words_from}
-use Rattle.script.specs.Numbers.{paired, character_in}
-use Rattle.script.specs.Numbers as read
+use Rattle.tokens.specs.Words.{is_blank, is_plain, uncommented, ended, words_from}
+use Rattle.script.specs.Characters.{character_in}
+use Rattle.tokens.specs.Numbers as read
 use Rattle.script.specs.Lines.{with_word, octets, octets_said, call_said, line_said}
 use Rattle.account.specs.Texts.{hex_digit, hex_octet, hex_octets}
 
@@ -36,7 +35,7 @@ module _ (o : ℕ) (small : o < 256) where
   low = digit (o % 16) (omega arith)
 
   octet_back : character_in (digits o) ≡ Some (good o)
-  octet_back = ap₂ (paired Parity.Good) high.back low.back ∙ ap (λ v. Some (good v)) (omega arith)
+  octet_back = rw (high.back, low.back) (ap (λ v. Some (good v)) (omega arith))
 
   no_crc : bytes_eq (digits o) (codes "+crc") ≡ false
   no_crc = let ne : eqb (hex_digit (o / 16)) 43 ≡ false = ne_eqb _ _ (λ e. omega (arith, high.high)) in rw ne

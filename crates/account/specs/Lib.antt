@@ -1,2 +1,3 @@
-pub mod Texts
+pub mod State
 pub mod Listening
+pub mod Texts

@@ -1,11 +1,12 @@
 -- The account of a script, a line for each call.
-use Rattle.std.specs.Prelude.{ℕ, ◌+◌, ◌/◌, ◌%◌, cond, List, [], ◌∷◌, ◌++◌, length, Some, None, codes, decimal, Option, nat_lt}
+use Rattle.std.specs.Prelude.{ℕ, ◌+◌, ◌/◌, ◌%◌, cond, List, [], ◌∷◌, ◌++◌, length, Some, None, Ok, Err, codes, decimal, Option, nat_lt}
 use Rattle.std.specs.List.{flat_map}
-use Rattle.outcome.specs.declared.causes.Layer.{Layer}
-use Rattle.outcome.specs.declared.faults.Fault.{Fault}
 use Rattle.outcome.specs.Causes.{number_of}
+use Rattle.outcome.specs.Texts.{fault_text}
 use Rattle.script.specs.Lines.{Said, blank, station, octets, silence, unknown}
-use Rattle.account.specs.Listening.{Listening, address_in, Told, refused, idle, frame, faulty, silence_tells}
+use Rattle.account.specs.declared.heard.Unheard.{Unheard}
+use Rattle.account.specs.State.{Listening}
+use Rattle.account.specs.Listening.{address_in, Told, silence_tells}
 
 -- 0 to 9 and A to F
 abbrev pub hex_digit : ℕ → ℕ
@@ -18,20 +19,17 @@ hex_octet o = 32 ∷ hex_digit (o / 16) ∷ hex_digit (o % 16) ∷ []
 abbrev pub hex_octets : List ℕ → List ℕ
 hex_octets os = flat_map hex_octet os
 
-abbrev pub layer_name : Layer → List ℕ
-layer_name Layer.Entry = codes "entry"
-layer_name Layer.Line = codes "line"
-layer_name Layer.Request = codes "request"
-layer_name Layer.Device = codes "device"
+abbrev pub unheard_text : Unheard → List ℕ
+unheard_text (Unheard.Refused c) = codes "refused " ++ decimal (number_of c)
+unheard_text (Unheard.Fault f) = fault_text f ++ codes ", nothing sent"
 
-abbrev pub fault_text : Fault → List ℕ
-fault_text f = codes "fault " ++ (layer_name f.layer ++ (codes " " ++ (decimal (number_of f.cause) ++ (codes " at " ++ decimal f.place))))
+abbrev pub frame_text : List ℕ → List ℕ
+frame_text os = codes "silence: frame, " ++ (decimal (length os) ++ (codes " octets:" ++ hex_octets os))
 
 abbrev pub silence_text : Told → List ℕ
-silence_text (refused c) = codes "silence: refused " ++ decimal (number_of c)
-silence_text idle = codes "silence: idle"
-silence_text (frame os) = codes "silence: frame, " ++ (decimal (length os) ++ (codes " octets:" ++ hex_octets os))
-silence_text (faulty f) = codes "silence: " ++ (fault_text f ++ codes ", nothing sent")
+silence_text (Ok None) = codes "silence: idle"
+silence_text (Ok (Some os)) = frame_text os
+silence_text (Err e) = codes "silence: " ++ unheard_text e
 
 -- what is told of a line of a script, by its number and its text; nothing of a blank one
 abbrev pub account_of : ℕ → List ℕ → Listening → Said → Option (List ℕ)

@@ -1,11 +1,13 @@
 // The calls of a station that only listens.
 ghost use Rattle.std.specs.Prelude.{◌≡◌};
-ghost use Rattle.account.specs.Listening.{listening, listening_of, opened, address_in, passed, told, silence_tells, silence_leaves};
+ghost use Rattle.account.specs.State.{listening};
+ghost use Rattle.account.specs.Listening.{opened, address_in, passed, silence_tells, silence_leaves};
 ghost use Rattle.line.specs.Burst.{more};
 ghost use Rattle.line.specs.Line.{reception};
 
-use crate::state::{Heard, Listener};
-use line::{Character, Receiver, Reception};
+use crate::heard::Unheard;
+use crate::state::Listener;
+use line::{Character, Frame, Receiver};
 use outcome::{Cause, Fault};
 
 // An address outside 1 to 247 becomes 247.
@@ -21,7 +23,7 @@ pub(crate) fn address_in(address: u32) -> u8
 impl Listener {
     /// A station just opened at an address.
     pub fn open(address: u32) -> Listener
-        ensures { listening_of result ≡ opened address }
+        ensures { result ≡ opened address }
     {
         Listener {
             address: address_in(address),
@@ -31,35 +33,31 @@ impl Listener {
 
     /// Characters off the wire.
     pub fn octets(&mut self, characters: &[Character])
-        ensures { listening_of self.new ≡ listening self.old.address (more (listening_of self.old).burst characters.now) }
+        ensures { self.new ≡ listening self.old.address (more self.old.burst characters.now) }
     {
         self.receiver.characters(characters);
     }
 
     /// What a silence with an answer buffer of `room` octets tells.
-    pub fn heard(&self, room: u32) -> Heard<'_>
-        ensures { told result ≡ silence_tells (listening_of self.now) room }
+    pub fn heard(&self, room: u32) -> Result<Option<Frame<'_>>, Unheard>
+        ensures { result ≡ silence_tells self.now room }
     {
         if room < 32 {
-            return Heard::Refused(Cause::ShortBuffer);
+            return Err(Unheard::Refused(Cause::ShortBuffer));
         }
-        match self.received() {
-            Ok(Reception::Idle) => Heard::Idle,
-            Ok(Reception::Frame(frame)) => Heard::Frame(self.receiver.body(&frame)),
-            Err(fault) => Heard::Fault(fault),
-        }
+        Ok(self.received()?)
     }
 
     // The burst under way, as the line takes it.
-    fn received(&self) -> Result<Reception, Fault>
-        ensures { result ≡ passed (reception self.now.address (listening_of self.now).burst) }
+    fn received(&self) -> Result<Option<Frame<'_>>, Fault>
+        ensures { result ≡ passed (reception self.now.address self.now.burst) }
     {
         Ok(self.receiver.reception(self.address)?)
     }
 
     /// The silence itself: it ends the burst, unless it is refused.
     pub fn silence(&mut self, room: u32)
-        ensures { listening_of self.new ≡ silence_leaves (listening_of self.old) room }
+        ensures { self.new ≡ silence_leaves self.old room }
     {
         if room >= 32 {
             self.receiver.clear();

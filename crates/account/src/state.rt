@@ -1,6 +1,6 @@
 // A station that only listens.
 use line::Receiver;
-use outcome::{Cause, Fault};
+use std::marker::Model;
 
 /// Its address, and the burst under way.
 #[derive(Drop)]
@@ -9,11 +9,11 @@ pub struct Listener {
     pub(crate) receiver: Receiver,
 }
 
-/// What a silence tells: a refusal, or what became of the burst that it ends. A frame is told by its octets without the CRC.
-#[derive(Drop)]
-pub enum Heard<'a> {
-    Refused(Cause),
-    Idle,
-    Frame(&'a [u8]),
-    Fault(Fault),
+impl Model for Listener {
+    ghost use Rattle.line.specs.Memory.{burst_of};
+    ghost use Rattle.account.specs.State.{Listening, listening};
+
+    ghost Value = { Listening };
+
+    ghost view = { λ l. listening l.address (burst_of l.receiver) };
 }

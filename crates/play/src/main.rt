@@ -1,7 +1,7 @@
 // Plays a script of calls from standard input and prints an account of it, a line for each call.
 #![tactic(auto)]
 
-use account::{Listener, play};
+use account::{Listener, Source, play};
 use std::io;
 use std::io::{BufRead, BufReader, Write};
 
@@ -12,10 +12,14 @@ fn run(rt: &HostRuntime) -> io::Result<()> {
     let heap = rt.alloc();
     let mut out = rt.stdout();
     let mut listener = Listener::open(ADDRESS);
-    let mut number = 0usize;
-    for line in BufReader::new(heap, rt.stdin())?.split(heap, b'\n') {
-        number = number.saturating_add(1);
-        if let Some(mut told) = play(heap, &mut listener, number, line?.as_slice())? {
+    let lines = BufReader::new(heap, rt.stdin())?.split(heap, b'\n');
+    for (i, text) in lines.enumerate() {
+        let text = text?;
+        let source = Source {
+            number: i.saturating_add(1),
+            text: text.as_slice(),
+        };
+        if let Some(mut told) = play(heap, &mut listener, &source)? {
             told.push(b'\n')?;
             out.write_all(told.as_slice())?;
         }
