@@ -1,11 +1,19 @@
 // Bursts: lengths, parity marks, addresses. The CRCs are stored, not worked out here.
 #[cfg(test)]
 mod tests {
-    use line::{Frame, LineFault, Parity, Receiver, Reception, compose};
+    use line::{Character, LineFault, Parity, Receiver, compose};
     use outcome::{Cause, Fault, Layer};
 
     // No octet has this index.
     const NONE: usize = 1000;
+
+    // A frame by its address, whether it is a broadcast, and where its CRC stands.
+    #[derive(Clone, Copy, PartialEq, Eq, Debug)]
+    struct Seen {
+        address: u8,
+        broadcast: bool,
+        end: usize,
+    }
 
     // What comes of a burst of so many octets: address, function, zeros, and the CRC at its end. The octet at `bad` has bad parity.
     fn heard(
@@ -14,7 +22,7 @@ mod tests {
         function: u8,
         crc: u16,
         bad: usize,
-    ) -> Result<Reception, LineFault> {
+    ) -> Result<Option<Seen>, LineFault> {
         let mut receiver = Receiver::new();
         for i in 0..length {
             let value = if length - i == 2 {
@@ -29,29 +37,34 @@ mod tests {
                 0
             };
             let parity = if i == bad { Parity::Bad } else { Parity::Good };
-            receiver.octet(value, parity);
+            receiver.octet(Character { value, parity });
         }
-        receiver.reception(5)
+        let Some(frame) = receiver.reception(5)? else {
+            return Ok(None);
+        };
+        Ok(Some(Seen {
+            address: frame.address(),
+            broadcast: frame.is_broadcast(),
+            end: frame.octets().len(),
+        }))
     }
 
-    fn frame(address: u8, end: usize) -> Result<Reception, LineFault> {
+    fn frame(address: u8, end: usize) -> Result<Option<Seen>, LineFault> {
         let broadcast = address == 0;
-        Ok(Reception::Frame(Frame {
+        Ok(Some(Seen {
             address,
             broadcast,
-            function: 1,
-            data: 2,
             end,
         }))
     }
 
-    fn fault(cause: Cause, place: usize) -> Result<Reception, LineFault> {
+    fn fault(cause: Cause, place: usize) -> Result<Option<Seen>, LineFault> {
         Err(LineFault { cause, place })
     }
 
     #[test]
     fn lengths(rt: HostRuntime) {
-        assert_eq!(rt; heard(0, 5, 3, 0x0000, NONE), Ok(Reception::Idle), "0");
+        assert_eq!(rt; heard(0, 5, 3, 0x0000, NONE), Ok(None), "0");
         assert_eq!(rt;
             heard(3, 5, 3, 0x0000, NONE),
             fault(Cause::TooShort, 3),

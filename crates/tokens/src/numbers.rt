@@ -52,7 +52,8 @@ pub fn hex_octets<const N: usize>(word: &[u8]) -> Option<[u8; N]>
 fn word_value(word: &[u8]) -> Option<u16>
     ensures { result ≡ word_value word.now }
 {
-    u16::try_from(number(word)?).ok()
+    let n = number(word)?;
+    u16::try_from(n).ok()
 }
 
 /// So many values of registers, where the words are their numbers, one for each.
