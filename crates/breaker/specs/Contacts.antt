@@ -1,13 +1,12 @@
 -- The two breakers that read their contacts: what they are is their last contact word and their hand.
-use Rattle.std.specs.Prelude.{ℕ, ◌/◌, ◌%◌, ◌^◌, Bool, true, false, cond, not, ◌&&◌, ◌==◌}
+use Rattle.std.specs.Prelude.{ℕ, ◌/◌, ◌%◌, ◌^◌, Bool, true, false, if◌then◌else◌, not, ◌&&◌, ◌==◌, Some, None, Option}
 use Rattle.breaker.specs.declared.words.Order.{Order}
-use Rattle.breaker.specs.declared.words.Hand.{Hand}
 use Rattle.breaker.specs.declared.words.Position.{Position}
 use Rattle.breaker.specs.declared.contacts.Contact.{Contact}
 use Rattle.breaker.specs.declared.contacts.Contacts.{Contacts}
 use Rattle.breaker.specs.Terms.{BreakerTerms, is_refused}
 
-abbrev pub contacts : ℕ → Hand → Contacts
+abbrev pub contacts : ℕ → Option Order → Contacts
 contacts word hand = record { word = word; hand = hand }
 
 -- the bit that tells it
@@ -23,7 +22,7 @@ shows c word = word / 2 ^ bit_of c % 2 == 1
 
 -- tripped wins over closed
 abbrev pub position_at : ℕ → Position
-position_at word = cond (shows Contact.Tripped word) Position.Tripped (cond (shows Contact.Closed word) Position.Closed Position.Open)
+position_at word = if shows Contact.Tripped word then Position.Tripped else (if shows Contact.Closed word then Position.Closed else Position.Open)
 
 abbrev pub is_closed : Position → Bool
 is_closed Position.Open = false
@@ -38,16 +37,16 @@ by_motor Order.Reset = true
 
 -- both start with an empty hand
 abbrev pub started : ℕ → Contacts
-started word = contacts word Hand.Empty
+started word = contacts word None
 
 abbrev pub taken : Contacts → Bool → Order → Contacts
-taken f barred o = cond (is_refused f.hand barred) f (contacts f.word (Hand.Holds o))
+taken f barred o = if is_refused f.hand barred then f else contacts f.word (Some o)
 
 abbrev pub let_go : Contacts → Contacts
-let_go f = contacts f.word Hand.Empty
+let_go f = contacts f.word None
 
 abbrev pub ticked : Contacts → Bool → ℕ → Contacts
-ticked f ends word = contacts word (cond ends Hand.Empty f.hand)
+ticked f ends word = contacts word (if ends then None else f.hand)
 
 -- a breaker that bars the motor's orders at some contact words, and whose order ends at some
 abbrev pub by_contacts : (ℕ → Bool) → (ℕ → Bool) → BreakerTerms Contacts
@@ -61,10 +60,22 @@ by_contacts barring ending = record {
   tick = λ f word. ticked f (ending word) word;
 }
 
+abbrev pub is_hot : ℕ → Bool
+is_hot = shows Contact.Hot
+
+abbrev pub travel_is_done : ℕ → Bool
+travel_is_done = shows Contact.TravelDone
+
 -- the motor breaker bars its orders while the motor is over 100 °C; an order ends when the travel is done
 abbrev pub motor : BreakerTerms Contacts
-motor = by_contacts (shows Contact.Hot) (shows Contact.TravelDone)
+motor = by_contacts is_hot travel_is_done
+
+abbrev pub always : ℕ → Bool
+always word = true
+
+abbrev pub is_not_closed : ℕ → Bool
+is_not_closed word = not (is_closed (position_at word))
 
 -- the release breaker has no motor; its order ends at a position other than closed
 abbrev pub release : BreakerTerms Contacts
-release = by_contacts (λ word. true) (λ word. not (is_closed (position_at word)))
+release = by_contacts always is_not_closed

@@ -1,3 +1,4 @@
 pub mod Terms
 pub mod Contacts
 pub mod Carried
+pub mod Names

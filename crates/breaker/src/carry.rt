@@ -3,7 +3,7 @@ ghost use Rattle.std.specs.Prelude.{◌≡◌, IfOk};
 ghost use Rattle.breaker.specs.Carried.{ticks, ticked, carried, carried_tells, CarriedOut};
 
 use crate::terms::Breaker;
-use crate::words::{Hand, NotTaken, Order};
+use crate::words::{NotTaken, Order};
 
 // Ticks with one contact word after the other until the hand is empty or the words run out.
 fn tick_out<B: Breaker>(breaker: &mut B, words: &[u32]) -> usize
@@ -11,10 +11,10 @@ fn tick_out<B: Breaker>(breaker: &mut B, words: &[u32]) -> usize
     ensures after { B.Breaker.figure breaker.new ≡ ticked B.Breaker.terms (B.Breaker.figure breaker.old) words.now }
 {
     for (made, word) in words.iter().enumerate() {
-        match breaker.hand() {
-            Hand::Empty => return made,
-            Hand::Holds(_) => breaker.tick(*word),
+        if breaker.hand().is_none() {
+            return made;
         }
+        breaker.tick(*word);
     }
     words.len()
 }

@@ -3,37 +3,31 @@ ghost use Rattle.std.specs.Prelude.{◌≡◌};
 ghost use Rattle.breaker.specs.Contacts.{shows, position_at, by_motor, started, taken, let_go, ticked};
 ghost use Rattle.breaker.specs.Terms.{is_refused, told_if};
 
-use crate::words::{Hand, NotTaken, Order, Position};
+use crate::words::{NotTaken, Order, Position};
 
 /// The last contact word, and the order in hand.
-#[derive(Clone, Copy, Drop)]
+#[derive(Clone, Copy, PartialEq, Eq, Debug)]
 pub struct Contacts {
     pub(crate) word: u32,
-    pub(crate) hand: Hand,
+    pub(crate) hand: Option<Order>,
 }
 
-/// What a contact word tells, a bit for each.
-#[derive(Clone, Copy)]
+/// What a contact word tells: the bit for each.
+#[derive(Clone, Copy, PartialEq, Eq, Debug)]
 pub(crate) enum Contact {
-    Closed,
-    Tripped,
+    Closed = 0,
+    Tripped = 1,
     /// A trip command failed.
-    Failed,
+    Failed = 2,
     /// The motor is over 100 °C.
-    Hot,
-    TravelDone,
+    Hot = 3,
+    TravelDone = 4,
 }
 
 pub(crate) fn shows(contact: Contact, word: u32) -> bool
     ensures { result ≡ shows contact word }
 {
-    match contact {
-        Contact::Closed => word % 2 == 1,
-        Contact::Tripped => (word >> 1) % 2 == 1,
-        Contact::Failed => (word >> 2) % 2 == 1,
-        Contact::Hot => (word >> 3) % 2 == 1,
-        Contact::TravelDone => (word >> 4) % 2 == 1,
-    }
+    (word >> (contact as u32)) % 2 == 1
 }
 
 pub(crate) fn position_at(word: u32) -> Position
@@ -52,11 +46,7 @@ pub(crate) fn position_at(word: u32) -> Position
 pub(crate) fn by_motor(order: Order) -> bool
     ensures { result ≡ by_motor order }
 {
-    match order {
-        Order::Open => false,
-        Order::Close => true,
-        Order::Reset => true,
-    }
+    matches!(order, Order::Close | Order::Reset)
 }
 
 impl Contacts {
@@ -64,30 +54,24 @@ impl Contacts {
     pub(crate) fn new(word: u32) -> Contacts
         ensures { result ≡ started word }
     {
-        let hand = Hand::Empty;
-        Contacts { word, hand }
+        Contacts { word, hand: None }
     }
 
     pub(crate) fn take(&mut self, barred: bool, order: Order) -> Result<(), NotTaken>
         ensures told { result ≡ told_if (is_refused self.old.hand barred) }
         ensures after { self.new ≡ taken self.old barred order }
     {
-        match self.hand {
-            Hand::Empty if !barred => {
-                self.hand = Hand::Holds(order);
-                Ok(())
-            }
-            _ => Err(NotTaken),
+        if barred || self.hand.is_some() {
+            return Err(NotTaken);
         }
+        self.hand = Some(order);
+        Ok(())
     }
 
     pub(crate) fn let_go(&mut self)
         ensures { self.new ≡ let_go self.old }
     {
-        *self = Contacts {
-            word: self.word,
-            hand: Hand::Empty,
-        };
+        self.hand = None;
     }
 
     /// A tick, at which the order in hand may end.
@@ -96,7 +80,7 @@ impl Contacts {
     {
         self.word = word;
         if ends {
-            self.hand = Hand::Empty;
+            self.let_go();
         }
     }
 }

@@ -1,15 +1,15 @@
-// Breakers behind one interface, and two that read their contacts.
+// Breakers behind one interface, and those that read their contacts.
 #![tactic(auto)]
 
 mod carry;
+mod contact_breaker;
 mod contacts;
-mod motor;
-mod release;
+mod drive;
 mod terms;
 mod words;
 
 pub use carry::carry_out;
-pub use motor::MotorBreaker;
-pub use release::ReleaseBreaker;
+pub use contact_breaker::{ContactBreaker, MotorBreaker, ReleaseBreaker};
+pub use drive::{Drive, Motor, Release};
 pub use terms::Breaker;
-pub use words::{Hand, NotTaken, Order, Position};
+pub use words::{NotTaken, Order, Position};

@@ -2,7 +2,7 @@
 ghost use Rattle.std.specs.Prelude.{◌≡◌};
 ghost use Rattle.breaker.specs.Terms.{BreakerTerms, BreakerLaws, take_tells};
 
-use crate::words::{Hand, NotTaken, Order, Position};
+use crate::words::{NotTaken, Order, Position};
 
 /// A breaker states its meaning as a figure of its own kind: four faces are read from it, and three steps each lead to
 /// exactly one next figure. What every breaker keeps is in the laws; a further breaker has these to show and no more.
@@ -20,7 +20,8 @@ pub trait Breaker {
     fn failed(&self) -> bool
         ensures { result ≡ terms.fail (figure self.now) };
 
-    fn hand(&self) -> Hand
+    /// The order that it is carrying out.
+    fn hand(&self) -> Option<Order>
         ensures { result ≡ terms.hand (figure self.now) };
 
     /// Whether an order is not taken at present.

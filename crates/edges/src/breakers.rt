@@ -1,9 +1,7 @@
 // Breakers: contacts, bars, and orders that are taken, end and are let go.
 #[cfg(test)]
 mod tests {
-    use breaker::{
-        Breaker, Hand, MotorBreaker, NotTaken, Order, Position, ReleaseBreaker, carry_out,
-    };
+    use breaker::{Breaker, MotorBreaker, NotTaken, Order, Position, ReleaseBreaker, carry_out};
 
     #[test]
     fn positions(rt: HostRuntime) {
@@ -42,7 +40,7 @@ mod tests {
     fn motor_order(rt: HostRuntime) {
         let mut motor = MotorBreaker::new(4);
         assert_eq!(rt; motor.take(Order::Close), Ok(()));
-        assert_eq!(rt; motor.hand(), Hand::Holds(Order::Close));
+        assert_eq!(rt; motor.hand(), Some(Order::Close));
         assert!(rt; motor.failed(), "as before");
         assert_eq!(rt;
             motor.take(Order::Close),
@@ -50,14 +48,14 @@ mod tests {
             "the hand is not empty"
         );
         motor.tick(0xFFFF_FFEF);
-        assert_eq!(rt; motor.hand(), Hand::Holds(Order::Close), "no bit 4");
+        assert_eq!(rt; motor.hand(), Some(Order::Close), "no bit 4");
         motor.tick(16);
-        assert_eq!(rt; motor.hand(), Hand::Empty);
+        assert_eq!(rt; motor.hand(), None);
         motor.tick(8);
         assert_eq!(rt; motor.take(Order::Reset), Err(NotTaken), "hot");
         assert_eq!(rt; motor.take(Order::Open), Ok(()));
         motor.let_go();
-        assert_eq!(rt; motor.hand(), Hand::Empty);
+        assert_eq!(rt; motor.hand(), None);
         assert!(rt; motor.bars(Order::Close), "as before");
     }
 
@@ -65,12 +63,12 @@ mod tests {
     fn release_order(rt: HostRuntime) {
         let mut release = ReleaseBreaker::new(1);
         assert_eq!(rt; release.take(Order::Close), Err(NotTaken));
-        assert_eq!(rt; release.hand(), Hand::Empty);
+        assert_eq!(rt; release.hand(), None);
         assert_eq!(rt; release.take(Order::Open), Ok(()));
         release.tick(17);
-        assert_eq!(rt; release.hand(), Hand::Holds(Order::Open), "still closed");
+        assert_eq!(rt; release.hand(), Some(Order::Open), "still closed");
         release.tick(3);
-        assert_eq!(rt; release.hand(), Hand::Empty, "tripped");
+        assert_eq!(rt; release.hand(), None, "tripped");
     }
 
     // One function serves both.
@@ -84,9 +82,9 @@ mod tests {
             Ok(2),
             "the words run out"
         );
-        assert_eq!(rt; motor.hand(), Hand::Holds(Order::Open));
+        assert_eq!(rt; motor.hand(), Some(Order::Open));
         assert_eq!(rt; carry_out(&mut motor, Order::Open, &[16]), Err(NotTaken));
-        assert_eq!(rt; motor.hand(), Hand::Holds(Order::Open));
+        assert_eq!(rt; motor.hand(), Some(Order::Open));
         let mut release = ReleaseBreaker::new(1);
         assert_eq!(rt; carry_out(&mut release, Order::Open, &[1, 0, 0]), Ok(2));
         assert_eq!(rt; carry_out(&mut release, Order::Reset, &[0]), Err(NotTaken));

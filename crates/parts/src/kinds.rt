@@ -4,21 +4,21 @@ ghost use Rattle.parts.specs.Reading.{at_first};
 
 use settings::{LawfulSettings, Settings};
 
-#[derive(Clone, Copy)]
+#[derive(Clone, Copy, PartialEq, Eq, Debug)]
 pub enum BreakerKind {
     Motor,
     Release,
 }
 
 /// A store by what it opens from.
-#[derive(Clone, Copy)]
+#[derive(Clone, Copy, PartialEq, Eq, Debug)]
 pub enum StoreImage {
     Battery { settings: Settings, sound: bool },
     Eeprom { octets: [u8; 23] },
 }
 
 /// Breaker, contact word at the start, store and address.
-#[derive(Clone, Copy)]
+#[derive(Clone, Copy, PartialEq, Eq, Debug)]
 pub struct Opening {
     pub breaker: BreakerKind,
     pub contacts: u32,

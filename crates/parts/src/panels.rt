@@ -2,16 +2,16 @@
 ghost use Rattle.std.specs.Prelude.{◌≡◌};
 ghost use Rattle.parts.specs.Panel.{panel_of};
 
-use breaker::{Breaker, Hand, Order, Position};
+use breaker::{Breaker, Order, Position};
 use settings::Settings;
 use store::{Store, in_force};
 
 /// The faces of a breaker, the settings in force, and whether the store is sound and how long it is busy.
-#[derive(Clone, Copy)]
+#[derive(Clone, Copy, PartialEq, Eq, Debug)]
 pub struct Panel {
     pub position: Position,
     pub failed: bool,
-    pub hand: Hand,
+    pub hand: Option<Order>,
     pub bars_open: bool,
     pub bars_close: bool,
     pub bars_reset: bool,

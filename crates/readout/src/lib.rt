@@ -1,31 +1,26 @@
 // What a panel shows, as text.
 #![tactic(auto)]
 
-ghost use Rattle.std.specs.Prelude.{◌≡◌, ◌++◌, IfOk, string_bytes};
-ghost use Rattle.readout.specs.Readout.{position_name, hand_name, where_so, bars_text, word_text, words_text, breaker_text, store_text, state_text};
+ghost use Rattle.std.specs.Prelude.{◌≡◌, ◌++◌, IfOk, Some, string_bytes};
+ghost use Rattle.readout.specs.Readout.{hand_name, where_so, bars_text, word_text, words_text, breaker_text, store_text, state_text};
 
-use breaker::{Hand, Order, Position};
+use breaker::Order;
 use parts::Panel;
 use std::alloc::{AllocError, Global};
+use std::fmt;
 
-fn position_name(position: Position) -> &'static str
-    ensures { result.now ≡ position_name position }
-{
-    match position {
-        Position::Open => "open",
-        Position::Closed => "closed",
-        Position::Tripped => "tripped",
-    }
-}
+// The order in hand.
+#[derive(Clone, Copy)]
+struct Hand(Option<Order>);
 
-fn hand_name(hand: Hand) -> &'static str
-    ensures { result.now ≡ hand_name hand }
-{
-    match hand {
-        Hand::Empty => "empty",
-        Hand::Holds(Order::Open) => "open",
-        Hand::Holds(Order::Close) => "close",
-        Hand::Holds(Order::Reset) => "reset",
+impl fmt::Display for Hand {
+    ghost output = { λ h. Some (hand_name h.0) };
+
+    fn fmt<W: fmt::Write>(&self, f: &mut fmt::Formatter<W>) -> fmt::Result {
+        match &self.0 {
+            Some(order) => order.fmt(f),
+            None => f.write_str("empty"),
+        }
     }
 }
 
@@ -53,9 +48,9 @@ fn bars_text(heap: Global, panel: &Panel) -> Result<String, AllocError>
 fn breaker_text(heap: Global, panel: &Panel) -> Result<String, AllocError>
     ensures { IfOk result (λ s. string_bytes s ≡ breaker_text panel.now) }
 {
-    let position = position_name(panel.position);
+    let position = panel.position;
     let fail = if panel.failed { "failed" } else { "ok" };
-    let hand = hand_name(panel.hand);
+    let hand = Hand(panel.hand);
     format!(in heap; "{position}, {fail}, hand {hand}")
 }
 

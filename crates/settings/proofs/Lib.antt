@@ -1,3 +1,4 @@
 pub mod Ranges
 pub mod Joined
 pub mod LawfulSets
+pub mod Mapped

@@ -1,8 +1,26 @@
--- The walk over the table, one setting further.
-use Rattle.std.proofs.Common.{◌≡◌, ℕ, ◌+◌, ◌<◌, cond, List, length, get_or, drop, Some, add-one, drop-cons}
+-- The first setting whose word is outside its range.
+use Rattle.std.proofs.Common.{◌≡◌, ℕ, Bool, true, false, cond, List, [], ◌∷◌, length, Some, None, Option, refl, ap, ◌∙◌, arith}
+use Rattle.std.specs.List.{find, zip}
+use Rattle.std.specs.Option.{option_map}
 use Rattle.settings.specs.Tried.{first_failing}
 use Rattle.settings.specs.declared.table.Setting.{Setting}
 use Rattle.settings.specs.Checks.{range_checks, is_outside}
 
-pub one_further : (ss : List Setting) (ws : List ℕ) (i : ℕ) (d : Setting) → i < length ss → i < length ws → first_failing (range_checks (drop i ss) (drop i ws)) ≡ cond (is_outside (get_or ss i d) (get_or ws i 0)) (Some (get_or ss i d).code) (first_failing (range_checks (drop (i + 1) ss) (drop (i + 1) ws)))
-one_further ss ws i d h k = rw (add-one, drop-cons ss i d, drop-cons ws i 0)
+abbrev code_of : Setting × ℕ → ℕ
+code_of p = p.0.code
+
+mapped_cond : {A B : Type 0} (f : A → B) (b : Bool) (x : A) (o : Option A) → option_map f (cond b (Some x) o) ≡ cond b (Some (f x)) (option_map f o)
+mapped_cond f true x o = refl
+mapped_cond f false x o = refl
+
+first_outside : (ss : List Setting) (ws : List ℕ) → length ws ≡ length ss → option_map code_of (find (λ p. is_outside p.0 p.1) (zip ss ws)) ≡ first_failing (range_checks ss ws)
+first_outside [] ws e = refl
+first_outside (s ∷ ss) [] e = absurd (omega (arith, e))
+first_outside (s ∷ ss) (w ∷ ws) e =
+    mapped_cond code_of (is_outside s w) (s, w) (find (λ p. is_outside p.0 p.1) (zip ss ws))
+    ∙ ap (cond (is_outside s w) (Some s.code)) (first_outside ss ws (omega (arith, e)))
+
+-- what is found, by a view of the items, and its code
+pub first_code : (ss : List Setting) (ws : List ℕ) → length ws ≡ length ss → {A : Type 0} (view : A → Setting × ℕ) (o : Option A) {code : Option ℕ} → code ≡ option_map (λ a. code_of (view a)) o → option_map view o ≡ find (λ p. is_outside p.0 p.1) (zip ss ws) → code ≡ first_failing (range_checks ss ws)
+first_code ss ws size view None told found = told ∙ ap (option_map code_of) found ∙ first_outside ss ws size
+first_code ss ws size view (Some a) told found = told ∙ ap (option_map code_of) found ∙ first_outside ss ws size

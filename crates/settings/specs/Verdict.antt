@@ -1,7 +1,6 @@
 -- What a check of eleven words answers.
 use Rattle.std.specs.Prelude.{ℕ, List, Some, None, Ok, Err, Option, Result}
 use Rattle.settings.specs.declared.words.Unlawful.{Unlawful}
-use Rattle.settings.specs.declared.lawful.LawfulSettings.{LawfulSettings}
 use Rattle.settings.specs.Checks.{fail_code}
 
 abbrev pub judged : List ℕ → Option ℕ → Result (List ℕ) Unlawful
@@ -11,8 +10,3 @@ judged ws (Some code) = Err (record { code = code })
 -- the same words, or the code of the first check that fails
 abbrev pub verdict : List ℕ → Result (List ℕ) Unlawful
 verdict ws = judged ws (fail_code ws)
-
--- an answer by its words
-abbrev pub answered : Result LawfulSettings Unlawful → Result (List ℕ) Unlawful
-answered (Ok l) = Ok l.words
-answered (Err e) = Err e

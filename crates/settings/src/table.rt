@@ -2,6 +2,7 @@
 ghost use Rattle.std.specs.Prelude.{◌≡◌};
 ghost use Rattle.std.specs.List.{slice_get};
 ghost use Rattle.settings.specs.Table.{settings};
+ghost use Rattle.settings.specs.Checks.{is_outside};
 
 /// A setting: its range, the value from the factory, and the fail code of a value outside the range.
 #[derive(Clone, Copy, PartialEq, Eq, Debug)]
@@ -81,29 +82,18 @@ pub(crate) const TABLE: [Setting; 11] = [
     }, // 10 G time delay, ms
 ];
 
-pub(crate) const FACTORY: [u16; 11] = [
-    TABLE[0].factory,
-    TABLE[1].factory,
-    TABLE[2].factory,
-    TABLE[3].factory,
-    TABLE[4].factory,
-    TABLE[5].factory,
-    TABLE[6].factory,
-    TABLE[7].factory,
-    TABLE[8].factory,
-    TABLE[9].factory,
-    TABLE[10].factory,
-];
-
 impl Setting {
     /// The setting that a word is, by the word's number.
     pub fn of_word(number: usize) -> Option<Setting>
         ensures { result ≡ slice_get settings number }
     {
-        if number < 11 {
-            Some(TABLE[number])
-        } else {
-            None
-        }
+        TABLE.get(number).copied()
+    }
+
+    /// Whether a word lies outside the range.
+    pub fn is_outside(&self, word: u16) -> bool
+        ensures { result ≡ is_outside self.now word }
+    {
+        !(self.low..=self.high).contains(&word)
     }
 }

@@ -1,24 +1,25 @@
--- An array that is filled place by place.
-use Rattle.std.proofs.Common.{◌≡◌, ℕ, ◌+◌, ◌<◌, ◌≤◌, List, map, length, get_or, take, set, ◌∙◌, arith}
+-- An array that is made place by place.
+use Rattle.std.proofs.Common.{◌≡◌, ℕ, zero, suc, ◌+◌, ◌<◌, List, map, get_or, refl, subst, ◌∙◌, arith}
 use Rattle.std.specs.List.{range_with_len}
-use Rattle.std.proofs.lemmas.List.{length-set, length-take-le, get_or-take}
-use Rattle.std.proofs.lemmas.List.Edits.{fill_by_more}
+use Rattle.std.specs.Array.{IsFromFnResult, IsFromFnResultFrom}
+use Rattle.std.specs.Fn.{Called}
 use Rattle.std.proofs.lemmas.List.FromFn.{fill_by_all}
+use denote.Param.Members.{Mut}
 
--- the first `i` of `n` places hold what they should
-pub record Filled (f : ℕ → ℕ) (n i : ℕ) (xs : List ℕ) : Type 0 where
-  pub size : length xs ≡ n
-  pub front : (k : ℕ) → k < i → get_or xs k 0 ≡ f k
+module _ {F : Type 0} {g : Mut F (ℕ × Unit {0}) ℕ} (h : ℕ → ℕ) {f : F} (calls : (i y : ℕ) (q : F) → Called g f (i, tt) y q → (q ≡ f) × (y ≡ h i)) where
+  -- each place holds what a call at it gave
+  placed : (ys : List ℕ) (i n : ℕ) (p : F) → p ≡ f → IsFromFnResultFrom g p ys i n → (k : ℕ) → k < n → get_or ys (i + k) 0 ≡ h (i + k)
+  placed ys i zero p same r k l = absurd (omega (arith, l))
+  placed ys i (suc n) p same r zero l =
+      let one = calls i r.1 r.0 (let P : F → Type 0 = λ s. Called g s (i, tt) r.1 r.0 in subst P same r.3) in
+      let here : i + 0 ≡ i = omega arith in
+      rw here (r.2.1 0 ∙ one.1)
+  placed ys i (suc n) p same r (suc k) l =
+      let one = calls i r.1 r.0 (let P : F → Type 0 = λ s. Called g s (i, tt) r.1 r.0 in subst P same r.3) in
+      let there : i + suc k ≡ i + 1 + k = omega arith in
+      rw there (placed ys (i + 1) n r.0 one.0 r.4 k (omega (arith, l)))
 
-pub one_filled : {f : ℕ → ℕ} {n i x : ℕ} {xs : List ℕ} → i < n → x ≡ f i → Filled f n i xs → Filled f n (i + 1) (set xs i x)
-one_filled {f} {n} {i} {x} {xs} h e r = record {
-  size = length-set xs i x ∙ r.size;
-  front = rw e (fill_by_more f xs i 0 (omega (arith, h, r.size)) r.front);
-}
-
-pub all_filled : {f : ℕ → ℕ} {n i : ℕ} {xs : List ℕ} → n ≤ i → Filled f n i xs → xs ≡ map f (range_with_len 0 n)
-all_filled {f} {n} {i} {xs} h r = fill_by_all f xs n 0 r.size (λ k l. r.front k (omega (arith, h, l)))
-
-pub front_filled : {f : ℕ → ℕ} {n i : ℕ} {xs : List ℕ} (m : ℕ) → m ≤ i → m ≤ n → Filled f n i xs → take m xs ≡ map f (range_with_len 0 m)
-front_filled {f} {n} {i} {xs} m h l r =
-    fill_by_all f (take m xs) m 0 (length-take-le m xs (omega (arith, l, r.size))) (λ k j. get_or-take m xs k 0 j ∙ r.front k (omega (arith, h, j)))
+  pub all_placed : {ys : List ℕ} {n : ℕ} → IsFromFnResult g f ys n → ys ≡ map h (range_with_len 0 n)
+  all_placed {ys} {n} r = fill_by_all h ys n 0 r.long (λ k l.
+      let here : 0 + k ≡ k = omega arith in
+      let P : ℕ → Type 0 = λ j. get_or ys j 0 ≡ h j in subst P here (placed ys 0 n f refl r.each k l))

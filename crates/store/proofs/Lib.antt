@@ -1,5 +1,5 @@
 pub mod Filling
+pub mod Sums
 pub mod Images
-pub mod Eights
 pub mod Behind
 pub mod Damage

@@ -43,7 +43,8 @@ impl Store for BatteryStore {
 
     fn put(&mut self, settings: LawfulSettings) -> Result<(), Busy> {
         let words = settings.settings().words;
-        *self = BatteryStore { words, sound: true };
+        self.words = words;
+        self.sound = true;
         Ok(())
     }
 

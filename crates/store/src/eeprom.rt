@@ -1,5 +1,5 @@
 // The store that writes behind.
-ghost use Rattle.std.specs.Prelude.{◌≡◌, ℕ, ◌≤◌, List, length};
+ghost use Rattle.std.specs.Prelude.{◌≡◌, ℕ, ◌≤◌, List};
 ghost use Rattle.store.specs.Stores.{eeprom, kept_by_eeprom, opened, eight_at};
 ghost use Rattle.store.specs.Laws.{ReadAfter, Recalled, DamageSeen};
 ghost use Rattle.std.proofs.Common.{rules};
@@ -10,15 +10,11 @@ use crate::terms::{Busy, Store};
 use settings::{LawfulSettings, Settings};
 
 // The eight octets from a place on, or as many as there are.
-fn write_eight(octets: &mut [u8], image: &[u8], start: usize)
-    requires { (length image.now ≡ length octets.old) × (start ≤ length octets.old) }
+fn write_eight(octets: &mut [u8; 23], image: &[u8; 23], start: usize)
+    requires { start ≤ 23 }
     ensures { octets.new ≡ eight_at start image.now octets.old }
 {
-    let end = if octets.len() - start < 8 {
-        octets.len()
-    } else {
-        start + 8
-    };
+    let end = octets.len().min(start + 8);
     octets[start..end].copy_from_slice(&image[start..end]);
 }
 
@@ -79,13 +75,9 @@ impl Store for EepromStore {
             return Err(Busy);
         }
         let words = settings.settings().words;
-        let octets = self.octets;
-        *self = EepromStore {
-            octets,
-            words,
-            sound: true,
-            busy: 3,
-        };
+        self.words = words;
+        self.sound = true;
+        self.busy = 3;
         Ok(())
     }
 

@@ -32,8 +32,8 @@ pub trait Store {
     /// A new set; refused exactly if the store is busy.
     fn put(&mut self, settings: LawfulSettings) -> Result<(), Busy>
         ensures told { result ≡ put_tells (kept self.old) }
-        ensures after { kept self.new ≡ put_into terms.write_time settings.words (kept self.old) }
-        ensures held { cells self.new ≡ cells_put terms (kept self.old) settings.words (cells self.old) };
+        ensures after { kept self.new ≡ put_into terms.write_time settings (kept self.old) }
+        ensures held { cells self.new ≡ cells_put terms (kept self.old) settings (cells self.old) };
 
     fn tick(&mut self)
         ensures after { kept self.new ≡ ticked (kept self.old) }

@@ -1,6 +1,6 @@
-use Rattle.std.proofs.Common.{refl, rules}
+use Rattle.std.proofs.Common.{rules}
 use Rattle.settings.proofs.LawfulSets.{lawful}
 use Rattle.settings.proofs.lawful.LawfulSettings.settings.Goals as goal
 
-pub returns : goal.returns
-returns c = record { value = refl; lawful = lawful c.args.self.now.words (search rules) c.args.self.now.lawful }
+pub returns-clause-lawful : goal.returns-clause-lawful
+returns-clause-lawful c = lawful c.self.inside.words (search rules) c.self.invariant

@@ -1,35 +1,45 @@
-// A breaker that closes and resets by a motor.
+// A breaker that reads its contacts, with a drive of some kind.
 ghost use Rattle.std.specs.Prelude.{◌≡◌};
-ghost use Rattle.breaker.specs.Contacts.{motor, started};
+ghost use Rattle.breaker.specs.Contacts.{by_contacts, started};
 ghost use Rattle.breaker.specs.declared.contacts.Contacts.{Contacts};
 ghost use Rattle.std.proofs.Common.{rules};
 
 use crate::contacts::{Contact, Contacts, by_motor, position_at, shows};
+use crate::drive::{Drive, Motor, Release};
 use crate::terms::Breaker;
-use crate::words::{Hand, NotTaken, Order, Position};
+use crate::words::{NotTaken, Order, Position};
+use std::marker::PhantomData;
 
-/// A breaker with a motor. It bars the motor's orders while the motor is hot, and its order ends when the travel is done.
+/// A breaker that reads its contacts.
 #[derive(Drop)]
-pub struct MotorBreaker {
+pub struct ContactBreaker<D> {
     pub(crate) contacts: Contacts,
+    drive: PhantomData<D>,
 }
 
-impl MotorBreaker {
-    pub fn new(word: u32) -> MotorBreaker
+/// A breaker that closes and resets by a motor.
+pub type MotorBreaker = ContactBreaker<Motor>;
+
+/// A breaker with an opening release and no motor.
+pub type ReleaseBreaker = ContactBreaker<Release>;
+
+impl<D: Drive> ContactBreaker<D> {
+    pub fn new(word: u32) -> ContactBreaker<D>
         ensures { result.contacts ≡ started word }
     {
-        MotorBreaker {
+        ContactBreaker {
             contacts: Contacts::new(word),
+            drive: PhantomData,
         }
     }
 }
 
-impl Breaker for MotorBreaker {
+impl<D: Drive> Breaker for ContactBreaker<D> {
     ghost Figure = { Contacts };
 
     ghost figure = { λ b. b.contacts };
 
-    ghost terms = { motor };
+    ghost terms = { by_contacts D.bars D.ends };
 
     ghost laws = { Prim.search rules };
 
@@ -41,13 +51,12 @@ impl Breaker for MotorBreaker {
         shows(Contact::Failed, self.contacts.word)
     }
 
-    fn hand(&self) -> Hand {
+    fn hand(&self) -> Option<Order> {
         self.contacts.hand
     }
 
-    // A hot motor must rest.
     fn bars(&self, order: Order) -> bool {
-        by_motor(order) && shows(Contact::Hot, self.contacts.word)
+        by_motor(order) && D::bars(self.contacts.word)
     }
 
     fn take(&mut self, order: Order) -> Result<(), NotTaken> {
@@ -60,6 +69,6 @@ impl Breaker for MotorBreaker {
     }
 
     fn tick(&mut self, word: u32) {
-        self.contacts.tick(shows(Contact::TravelDone, word), word);
+        self.contacts.tick(D::ends(word), word);
     }
 }
