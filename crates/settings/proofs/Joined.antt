@@ -1,7 +1,7 @@
 -- Checks that are tried before others.
 use Rattle.std.proofs.Common.{◌≡◌, Bool, true, false, cond, List, [], ◌∷◌, ◌++◌, Some, Option, refl}
 use Rattle.std.specs.Option.{option_or}
-use Rattle.settings.specs.Tried.{Check, first_failing}
+use Rattle.outcome.specs.Checks.{Check, first_failing}
 
 decided : {A : Type 0} (b : Bool) (a : A) (o p : Option A) → cond b (Some a) (option_or o p) ≡ option_or (cond b (Some a) o) p
 decided true a o p = refl

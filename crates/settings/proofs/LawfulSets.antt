@@ -3,7 +3,7 @@ use Rattle.std.proofs.Common.{◌≡◌, ℕ, zero, suc, ◌<◌, Bool, true, fa
 use mathlib.Core.Bool.{false≢true}
 use Rattle.std.proofs.lemmas.Bool.Decides.{nat_tests}
 use Rattle.std.specs.Option.{option_or}
-use Rattle.settings.specs.Tried.{first_failing}
+use Rattle.outcome.specs.Checks.{first_failing}
 use Rattle.settings.specs.declared.table.Setting.{Setting}
 use Rattle.settings.specs.Table.{settings, setting}
 use Rattle.settings.specs.Checks.{is_outside, range_checks, order_checks, fail_code, is_lawful}

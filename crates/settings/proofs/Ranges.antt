@@ -2,7 +2,7 @@
 use Rattle.std.proofs.Common.{◌≡◌, ℕ, Bool, true, false, cond, List, [], ◌∷◌, length, Some, None, Option, refl, ap, ◌∙◌, arith}
 use Rattle.std.specs.List.{find, zip}
 use Rattle.std.specs.Option.{option_map}
-use Rattle.settings.specs.Tried.{first_failing}
+use Rattle.outcome.specs.Checks.{first_failing}
 use Rattle.settings.specs.declared.table.Setting.{Setting}
 use Rattle.settings.specs.Checks.{range_checks, is_outside}
 

@@ -1,6 +1,6 @@
 -- The thirteen checks of a set: the first that fails gives the fail code.
 use Rattle.std.specs.Prelude.{ℕ, Bool, true, not, ◌&&◌, ◌||◌, List, [], ◌∷◌, ◌++◌, is_some, Option, ◌==◌, nat_le, nat_lt, slice_index}
-use Rattle.settings.specs.Tried.{Check, check, first_failing}
+use Rattle.outcome.specs.Checks.{Check, check, first_failing}
 use Rattle.settings.specs.declared.table.Setting.{Setting}
 use Rattle.settings.specs.Table.{settings}
 

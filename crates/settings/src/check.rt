@@ -1,6 +1,6 @@
 // The thirteen checks.
 ghost use Rattle.std.specs.Prelude.{◌≡◌, true, is_ok};
-ghost use Rattle.settings.specs.Tried.{first_failing};
+ghost use Rattle.outcome.specs.Checks.{first_failing};
 ghost use Rattle.settings.specs.Checks.{range_checks, order_checks, fail_code};
 ghost use Rattle.settings.specs.Laws.{Lawful};
 ghost use Rattle.settings.specs.Table.{settings, factory_set};
