@@ -14,8 +14,8 @@ use outcome::{Cause, Fault};
 pub(crate) fn address_in(address: u32) -> u8
     ensures { result ≡ address_in address }
 {
-    match address {
-        1..=247 => address as u8,
+    match u8::try_from(address) {
+        Ok(usable @ 1..=247) => usable,
         _ => 247,
     }
 }
