@@ -61,14 +61,27 @@ impl<D: Drive> Breaker for ContactBreaker<D> {
 
     fn take(&mut self, order: Order) -> Result<(), NotTaken> {
         let barred = self.bars(order);
-        self.contacts.take(barred, order)
+        if barred || self.contacts.hand.is_some() {
+            return Err(NotTaken);
+        }
+        self.contacts = Contacts {
+            hand: Some(order),
+            ..self.contacts
+        };
+        Ok(())
     }
 
     fn let_go(&mut self) {
-        self.contacts.let_go();
+        self.contacts = Contacts {
+            hand: None,
+            ..self.contacts
+        };
     }
 
     fn tick(&mut self, word: u32) {
-        self.contacts.tick(D::ends(word), word);
+        self.contacts.word = word;
+        if D::ends(word) {
+            self.let_go();
+        }
     }
 }

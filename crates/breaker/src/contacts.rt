@@ -1,9 +1,8 @@
 // What a breaker that reads its contacts is at a moment.
 ghost use Rattle.std.specs.Prelude.{◌≡◌};
-ghost use Rattle.breaker.specs.Contacts.{shows, position_at, by_motor, started, taken, let_go, ticked};
-ghost use Rattle.breaker.specs.Terms.{is_refused, told_if};
+ghost use Rattle.breaker.specs.Contacts.{shows, position_at, by_motor, started};
 
-use crate::words::{NotTaken, Order, Position};
+use crate::words::{Order, Position};
 
 /// The last contact word, and the order in hand.
 #[derive(Clone, Copy, PartialEq, Eq, Debug)]
@@ -55,32 +54,5 @@ impl Contacts {
         ensures { result ≡ started word }
     {
         Contacts { word, hand: None }
-    }
-
-    pub(crate) fn take(&mut self, barred: bool, order: Order) -> Result<(), NotTaken>
-        ensures told { result ≡ told_if (is_refused self.old.hand barred) }
-        ensures after { self.new ≡ taken self.old barred order }
-    {
-        if barred || self.hand.is_some() {
-            return Err(NotTaken);
-        }
-        self.hand = Some(order);
-        Ok(())
-    }
-
-    pub(crate) fn let_go(&mut self)
-        ensures { self.new ≡ let_go self.old }
-    {
-        self.hand = None;
-    }
-
-    /// A tick, at which the order in hand may end.
-    pub(crate) fn tick(&mut self, ends: bool, word: u32)
-        ensures { self.new ≡ ticked self.old ends word }
-    {
-        self.word = word;
-        if ends {
-            self.let_go();
-        }
     }
 }
