@@ -11,9 +11,9 @@ mod tests {
             Position::Tripped,
             Position::Tripped,
         ];
-        for word in 0..4 {
-            assert_eq!(rt; MotorBreaker::new(word as u32).position(), expected[word]);
-            assert_eq!(rt; ReleaseBreaker::new(word as u32).position(), expected[word]);
+        for (word, &position) in (0..4).zip(&expected) {
+            assert_eq!(rt; MotorBreaker::new(word).position(), position);
+            assert_eq!(rt; ReleaseBreaker::new(word).position(), position);
         }
         assert_eq!(rt; MotorBreaker::new(0xFFFF_FFFC).position(), Position::Open);
         assert!(rt; MotorBreaker::new(4).failed());

@@ -24,17 +24,14 @@ mod tests {
         bad: usize,
     ) -> Result<Option<Seen>, LineFault> {
         let mut receiver = Receiver::new();
+        let [low, high] = crc.to_le_bytes();
         for i in 0..length {
-            let value = if length - i == 2 {
-                (crc & 0xff) as u8
-            } else if length - i == 1 {
-                (crc >> 8) as u8
-            } else if i == 0 {
-                address
-            } else if i == 1 {
-                function
-            } else {
-                0
+            let value = match i {
+                _ if length - i == 2 => low,
+                _ if length - i == 1 => high,
+                0 => address,
+                1 => function,
+                _ => 0,
             };
             let parity = if i == bad { Parity::Bad } else { Parity::Good };
             receiver.octet(Character { value, parity });

@@ -3,15 +3,22 @@
 mod tests {
     use settings::{LawfulSettings, Setting, Settings};
 
-    const LOW: [u16; 11] = [40, 3, 0, 0, 60, 50, 0, 150, 0, 20, 100];
-
-    const HIGH: [u16; 11] = [100, 18, 1, 1, 1000, 500, 1, 1200, 1, 100, 800];
+    // Low and high end, value from the factory, code.
+    const TABLE: [(u16, u16, u16, u16); 11] = [
+        (40, 100, 100, 1031),
+        (3, 18, 3, 1033),
+        (0, 1, 0, 1040),
+        (0, 1, 0, 1041),
+        (60, 1000, 200, 1042),
+        (50, 500, 100, 1043),
+        (0, 1, 0, 1050),
+        (150, 1200, 400, 1051),
+        (0, 1, 1, 1060),
+        (20, 100, 20, 1062),
+        (100, 800, 100, 1063),
+    ];
 
     const FACTORY: [u16; 11] = [100, 3, 0, 0, 200, 100, 0, 400, 1, 20, 100];
-
-    const CODE: [u16; 11] = [
-        1031, 1033, 1040, 1041, 1042, 1043, 1050, 1051, 1060, 1062, 1063,
-    ];
 
     // 0 for a lawful set.
     fn code(words: [u16; 11]) -> u16 {
@@ -35,22 +42,22 @@ mod tests {
 
     #[test]
     fn ends_of_ranges(rt: HostRuntime) {
-        for i in 0..11 {
-            assert_eq!(rt; code(with_word(i, LOW[i])), 0, "low");
-            assert_eq!(rt; code(with_word(i, HIGH[i])), 0, "high");
+        for (i, &(low, high, _, failing)) in TABLE.iter().enumerate() {
+            assert_eq!(rt; code(with_word(i, low)), 0, "low");
+            assert_eq!(rt; code(with_word(i, high)), 0, "high");
             assert_eq!(rt;
-                code(with_word(i, HIGH[i].saturating_add(1))),
-                CODE[i],
+                code(with_word(i, high.saturating_add(1))),
+                failing,
                 "high + 1"
             );
-            assert_eq!(rt; code(with_word(i, 65535)), CODE[i], "largest");
-            if LOW[i] > 0 {
+            assert_eq!(rt; code(with_word(i, 65535)), failing, "largest");
+            if low > 0 {
                 assert_eq!(rt;
-                    code(with_word(i, LOW[i].saturating_sub(1))),
-                    CODE[i],
+                    code(with_word(i, low.saturating_sub(1))),
+                    failing,
                     "low - 1"
                 );
-                assert_eq!(rt; code(with_word(i, 0)), CODE[i], "0");
+                assert_eq!(rt; code(with_word(i, 0)), failing, "0");
             }
         }
     }
@@ -102,14 +109,14 @@ mod tests {
 
     #[test]
     fn table(rt: HostRuntime) {
-        for i in 0..11 {
+        for (i, &(low, high, factory, code)) in TABLE.iter().enumerate() {
             assert_eq!(rt;
                 Setting::of_word(i),
                 Some(Setting {
-                    low: LOW[i],
-                    high: HIGH[i],
-                    factory: FACTORY[i],
-                    code: CODE[i]
+                    low,
+                    high,
+                    factory,
+                    code
                 })
             );
         }

@@ -70,15 +70,11 @@ mod tests {
         let mut store = EepromStore::open(old);
         assert!(rt; !store.is_sound());
         assert_eq!(rt; store.put(other()), Ok(()));
-        for ticks in 0..3 {
-            assert_eq!(rt; store.busy(), 3 - ticks as u8);
+        for (ticks, &busy) in [3, 2, 1].iter().enumerate() {
+            assert_eq!(rt; store.busy(), busy);
             assert_eq!(rt; in_force(&store), Settings { words: OTHER });
-            let octets = store.octets();
-            for i in 0..23 {
-                assert_eq!(rt;
-                    octets[i],
-                    if i < 8 * ticks { OTHER_IMAGE[i] } else { 0xEE }
-                );
+            for (i, (octet, new)) in store.octets().iter().zip(&OTHER_IMAGE).enumerate() {
+                assert_eq!(rt; *octet, if i < 8 * ticks { *new } else { 0xEE });
             }
             assert_eq!(rt; store.put(LawfulSettings::factory()), Err(Busy));
             store.tick();
