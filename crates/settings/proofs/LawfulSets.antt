@@ -1,7 +1,8 @@
 -- Passing every check, and being lawful in the words of the law, are the same.
-use Rattle.std.proofs.Common.{◌≡◌, ℕ, zero, suc, ◌<◌, Bool, true, false, cond, not, List, [], ◌∷◌, length, get_or, is_some, Some, None, Option, sym, refl, ap, ◌∙◌, arith}
+use Rattle.std.proofs.Common.{◌≡◌, ℕ, zero, suc, ◌<◌, Bool, true, false, cond, not, List, [], ◌∷◌, length, get_or, is_some, Some, None, Option, sym, refl, ◌∙◌, arith}
 use mathlib.Core.Bool.{false≢true}
 use Rattle.std.proofs.lemmas.Bool.Decides.{nat_tests}
+use Rattle.std.proofs.lemmas.Option.{none-some}
 use Rattle.std.specs.Option.{option_or}
 use Rattle.outcome.specs.Checks.{first_failing}
 use Rattle.settings.specs.declared.table.Setting.{Setting}
@@ -14,20 +15,17 @@ none : {A : Type 0} (o : Option A) → not (is_some o) ≡ true → o ≡ None
 none None e = refl
 none (Some a) e = absurd (false≢true e)
 
-not_none : {A : Type 0} {a : A} → Some a ≡ None → ⊥
-not_none e = false≢true (sym (ap is_some e))
-
 both_none : {A : Type 0} (o p : Option A) → option_or o p ≡ None → (o ≡ None) × (p ≡ None)
 both_none None p e = (refl, e)
-both_none (Some a) p e = absurd (not_none e)
+both_none (Some a) p e = absurd (none-some _ (sym e))
 
 passed : {A : Type 0} (b : Bool) (a : A) (o : Option A) → cond b (Some a) o ≡ None → (b ≡ false) × (o ≡ None)
-passed true a o e = absurd (not_none e)
+passed true a o e = absurd (none-some _ (sym e))
 passed false a o e = (refl, e)
 
 all_within : (ss : List Setting) (ws : List ℕ) (i : ℕ) (d : Setting) → length ws ≡ length ss → first_failing (range_checks ss ws) ≡ None → i < length ss → is_outside (get_or ss i d) (get_or ws i 0) ≡ false
 all_within [] ws i d l e h = absurd (omega arith)
-all_within (s ∷ ss) [] i d l e h = absurd (not_none e)
+all_within (s ∷ ss) [] i d l e h = absurd (none-some _ (sym e))
 all_within (s ∷ ss) (w ∷ ws) zero d l e h = (passed _ _ _ e).0
 all_within (s ∷ ss) (w ∷ ws) (suc i) d l e h = all_within ss ws i d (omega arith) (passed (is_outside s w) s.code _ e).1 (omega arith)
 

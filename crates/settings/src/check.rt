@@ -51,7 +51,7 @@ fn order_code(words: &[u16; 11]) -> Option<u16>
 fn fail_code(words: &[u16; 11]) -> Option<u16>
     ensures { result ≡ fail_code words.now }
 {
-    range_code(words).or(order_code(words))
+    range_code(words).or_else(|| order_code(words))
 }
 
 impl Settings {

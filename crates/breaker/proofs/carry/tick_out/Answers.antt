@@ -1,9 +1,6 @@
-use Rattle.std.proofs.Common.{refl, arith, rules}
+use Rattle.std.proofs.Common.{arith, rules}
 use Rattle.breaker.proofs.Ticks.{one_more, no_more, all_made}
 use Rattle.breaker.proofs.carry.tick_out.Goals as goal
-
-pub loop-made-init : goal.loop-made-init
-loop-made-init g c = record { count = omega arith; ends = refl }
 
 pub returns-then-is_none : goal.returns-then-is_none
 returns-then-is_none g c =
