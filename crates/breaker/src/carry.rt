@@ -10,6 +10,7 @@ fn tick_out<B: Breaker>(breaker: &mut B, words: &[u32]) -> usize
     ensures told { result ≡ ticks B.Breaker.terms (B.Breaker.figure breaker.old) words.now }
     ensures after { B.Breaker.figure breaker.new ≡ ticked B.Breaker.terms (B.Breaker.figure breaker.old) words.now }
 {
+    // By a `for`: a closure that ticks would change the breaker that it borrows, and a proof knows nothing of that.
     for (made, word) in words.iter().enumerate() {
         if breaker.hand().is_none() {
             return made;

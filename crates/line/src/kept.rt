@@ -2,6 +2,8 @@
 use crate::characters::Parity;
 use std::marker::Model;
 
+// Arrays with a length and a flag beside them, and no Vec: the rules fix this memory, zero octets at first, never on a heap.
+
 /// The octets of the burst under way. Only the first 256 are kept, with their marks; `overlong` tells that more came.
 #[derive(Drop)]
 pub struct Receiver {

@@ -59,6 +59,7 @@ impl Parts {
     pub fn panel(&self) -> Panel
         ensures { result ≡ panel_in (fitted_of self.now) }
     {
+        // Four arms, and no `dyn`: what `open` makes would have to be boxed, and the parts are not on a heap.
         match (&self.breaker, &self.store) {
             (AnyBreaker::Motor(breaker), AnyStore::Battery(store)) => panel_of(breaker, store),
             (AnyBreaker::Motor(breaker), AnyStore::Eeprom(store)) => panel_of(breaker, store),

@@ -11,6 +11,7 @@ pub enum BreakerKind {
 }
 
 /// A store by what it opens from.
+// `sound` is a flag beside the settings, since a store opens unsound with words of its own too.
 #[derive(Clone, Copy, PartialEq, Eq, Debug)]
 pub enum StoreImage {
     Battery { settings: Settings, sound: bool },

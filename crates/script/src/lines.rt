@@ -10,6 +10,7 @@ use std::alloc::{AllocError, Global};
 use tokens::{number, uncommented, words};
 
 /// One line: a call, nothing at all, or words that are not understood.
+// No Result of an Option of a call: all five are told, and one equation says which of them a text is.
 #[derive(Drop)]
 pub enum Line {
     Blank,

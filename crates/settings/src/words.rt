@@ -7,6 +7,7 @@ pub struct Settings {
 }
 
 /// The fail code of the first check that a set does not pass.
+// A number and no enum: it is what a register shows, and nothing asks which check it belongs to.
 #[derive(Clone, Copy, PartialEq, Eq, Debug)]
 pub struct Unlawful {
     pub code: u16,

@@ -1,6 +1,8 @@
 // What the two stores hold.
 ghost use Rattle.std.specs.Prelude.{◌≡◌, ◌≤◌, length};
 
+// The marks are flags, and no Option of the words: an unsound store has words too, and tells them.
+
 /// A store whose memory a battery keeps: eleven words and a mark. It writes at once.
 #[derive(Drop)]
 pub struct BatteryStore {
