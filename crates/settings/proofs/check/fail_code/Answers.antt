@@ -1,6 +1,6 @@
 use Rattle.std.proofs.Common.{◌≡◌, rules, sym, ◌∙◌}
 use Rattle.std.specs.Option.{option_or}
-use Rattle.settings.specs.Tried.{first_failing}
+use Rattle.outcome.specs.Checks.{first_failing}
 use Rattle.settings.specs.Table.{settings}
 use Rattle.settings.specs.Checks.{range_checks, order_checks}
 use Rattle.settings.proofs.Joined.{joined}
