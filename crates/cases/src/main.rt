@@ -48,8 +48,7 @@ fn crc_agrees(frame: &[u8]) -> bool
 }
 
 fn main(rt: HostRuntime) -> io::Result<()> {
-    for (i, frame) in PUBLISHED.iter().enumerate() {
-        let number = i + 1;
+    for (number, frame) in (1..).zip(&PUBLISHED) {
         let told = if crc_agrees(frame) { "ok" } else { "bad" };
         println!(rt; "{number} {told}")?;
     }

@@ -35,14 +35,16 @@ fn breaker_at(kind: BreakerKind, word: u32) -> AnyBreaker
     }
 }
 
-fn store_from(image: StoreImage) -> AnyStore
-    ensures { store_of result ≡ store_from image }
-{
-    match image {
-        StoreImage::Battery { settings, sound } => AnyStore::Battery(BatteryStore::new(
-            settings, sound,
-        )),
-        StoreImage::Eeprom { octets } => AnyStore::Eeprom(EepromStore::open(octets)),
+impl From<StoreImage> for AnyStore {
+    ghost from_gives = { λ image store. store_of store ≡ store_from image };
+
+    fn from(image: StoreImage) -> AnyStore {
+        match image {
+            StoreImage::Battery { settings, sound } => {
+                AnyStore::Battery(BatteryStore::new(settings, sound))
+            }
+            StoreImage::Eeprom { octets } => AnyStore::Eeprom(EepromStore::open(octets)),
+        }
     }
 }
 
@@ -52,7 +54,7 @@ impl Parts {
     {
         Parts {
             breaker: breaker_at(opening.breaker, opening.contacts),
-            store: store_from(opening.store),
+            store: opening.store.into(),
         }
     }
 

@@ -21,6 +21,7 @@ const FACTORY: &[u8] = b"factory";
 
 const EEPROM: &[u8] = b"eeprom";
 
+// `kind` and `mark` read two names each: one function with a table of names would be longer than both.
 fn kind(word: &[u8]) -> Option<BreakerKind>
     ensures { result ≡ kind_in word.now }
 {

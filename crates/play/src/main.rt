@@ -13,10 +13,10 @@ fn run(rt: &HostRuntime) -> io::Result<()> {
     let mut out = rt.stdout();
     let mut listener = Listener::open(ADDRESS);
     let lines = BufReader::new(heap, rt.stdin())?.split(heap, b'\n');
-    for (i, text) in lines.enumerate() {
+    for (number, text) in (1..).zip(lines) {
         let text = text?;
         let source = Source {
-            number: i.saturating_add(1),
+            number,
             text: text.as_slice(),
         };
         if let Some(mut told) = play(heap, &mut listener, &source)? {

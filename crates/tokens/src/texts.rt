@@ -26,6 +26,7 @@ fn comment_start(text: &[u8]) -> usize
 }
 
 /// The words of a text, each a part of it.
+// A Vec and no type of its own, though each clause on words reads them by `spelt`: slice patterns take a slice apart.
 pub fn words<'a>(heap: Global, text: &'a [u8]) -> Result<Vec<&'a [u8]>, AllocError>
     ensures { IfOk result (λ v. spelt v.items ≡ words_of text.now) }
 {
