@@ -20,7 +20,7 @@ LINES = [
     ("4, printing", r"fn \w*(name|text|digit|with_octet|with_word)\w*[<(]"),
     ("5, parameters that travel together", r"^ +number: usize,$|number: usize, text: |value: u8, parity: Parity"),
     ("6, lengths, places and arrays in a struct", r"^    (pub(\(crate\))? )?\w+: (usize|\[\w+; \d+\]),"),
-    ("7, flags and functions handed over", r"(fn|,|\().*: bool[,)]|: fn\(|dyn "),
+    ("7, flags and functions handed over", r"\bfn .*: bool[,)]|: fn\(|\bdyn "),
 ]
 
 VIEWS = r"\b(\w+_of|spelt|kept_by_\w+|answered|told) (?=self|result|listener|\(?words|rest|heard|c\b)"

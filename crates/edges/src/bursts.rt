@@ -4,7 +4,7 @@ mod tests {
     use line::{Character, LineFault, Parity, Receiver, compose};
     use outcome::{Cause, Fault, Layer};
 
-    // No octet has this index.
+    // No octet has this index. A number and no Option, as the tests had it.
     const NONE: usize = 1000;
 
     // A frame by its address, whether it is a broadcast, and where its CRC stands.

@@ -20,7 +20,7 @@ mod tests {
 
     const FACTORY: [u16; 11] = [100, 3, 0, 0, 200, 100, 0, 400, 1, 20, 100];
 
-    // 0 for a lawful set.
+    // 0 for a lawful set, and no Option, as the tests had it.
     fn code(words: [u16; 11]) -> u16 {
         let settings = Settings { words };
         match settings.check() {

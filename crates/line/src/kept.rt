@@ -13,6 +13,7 @@ pub struct Receiver {
     pub(crate) overlong: bool,
 }
 
+// The memory and not the burst that is read from it, since what lies behind the burst is promised too.
 impl Model for Receiver {
     ghost use Rattle.std.specs.Prelude.{◌≤◌};
     ghost use Rattle.line.specs.Memory.{Memory, memory};
