@@ -9,7 +9,7 @@ use line::Frame;
 use std::alloc::{AllocError, Global};
 use std::fmt::Write;
 
-// Behind the word `octets`, the text is a line of a script that brings these octets again.
+// A function and no Display, since `again` speaks of the text as it is read: behind the word `octets`, the text is a line of a script that brings these octets again.
 fn octets_text(heap: Global, octets: &[u8]) -> Result<String, AllocError>
     ensures value { IfOk result (λ s. string_bytes s ≡ hex_octets octets.now) }
     ensures again { IfOk result (λ s. line_said (codes "octets" ++ string_bytes s) ≡ brings (map good octets.now)) }

@@ -4,24 +4,25 @@ mod tests {
     use line::{Character, LineFault, Parity, Receiver, compose};
     use outcome::{Cause, Fault, Layer};
 
-    // No octet has this index. A number and no Option, as the tests had it.
-    const NONE: usize = 1000;
+    const NONE: Option<usize> = None;
 
-    // A frame by its address, whether it is a broadcast, and where its CRC stands.
+    // A frame by its address, whether it is a broadcast, and where its function, its data and its CRC stand.
     #[derive(Clone, Copy, PartialEq, Eq, Debug)]
     struct Seen {
         address: u8,
         broadcast: bool,
+        function: Option<usize>,
+        data: Option<usize>,
         end: usize,
     }
 
-    // What comes of a burst of so many octets: address, function, zeros, and the CRC at its end. The octet at `bad` has bad parity.
+    // What comes of a burst of so many octets: address, function, zeros, and the CRC at its end. The octet at `bad`, if any, has bad parity.
     fn heard(
         length: usize,
         address: u8,
         function: u8,
         crc: u16,
-        bad: usize,
+        bad: Option<usize>,
     ) -> Result<Option<Seen>, LineFault> {
         let mut receiver = Receiver::new();
         let [low, high] = crc.to_le_bytes();
@@ -33,16 +34,23 @@ mod tests {
                 1 => function,
                 _ => 0,
             };
-            let parity = if i == bad { Parity::Bad } else { Parity::Good };
+            let parity = if bad == Some(i) {
+                Parity::Bad
+            } else {
+                Parity::Good
+            };
             receiver.octet(Character { value, parity });
         }
         let Some(frame) = receiver.reception(5)? else {
             return Ok(None);
         };
+        let octets = frame.octets();
         Ok(Some(Seen {
             address: frame.address(),
             broadcast: frame.is_broadcast(),
-            end: frame.octets().len(),
+            function: octets.iter().position(|o| *o == frame.function()),
+            data: octets.len().checked_sub(frame.data().len()),
+            end: octets.len(),
         }))
     }
 
@@ -51,6 +59,8 @@ mod tests {
         Ok(Some(Seen {
             address,
             broadcast,
+            function: Some(1),
+            data: Some(2),
             end,
         }))
     }
@@ -98,24 +108,28 @@ mod tests {
 
     #[test]
     fn parity_marks(rt: HostRuntime) {
-        assert_eq!(rt; heard(4, 5, 3, 0xE142, 0), fault(Cause::BadParity, 0), "0");
         assert_eq!(rt;
-            heard(3, 5, 3, 0x0000, 2),
+            heard(4, 5, 3, 0xE142, Some(0)),
+            fault(Cause::BadParity, 0),
+            "0"
+        );
+        assert_eq!(rt;
+            heard(3, 5, 3, 0x0000, Some(2)),
             fault(Cause::BadParity, 2),
             "before too short"
         );
         assert_eq!(rt;
-            heard(256, 5, 3, 0xDA13, 255),
+            heard(256, 5, 3, 0xDA13, Some(255)),
             fault(Cause::BadParity, 255),
             "255"
         );
         assert_eq!(rt;
-            heard(257, 5, 3, 0xCD9B, 255),
+            heard(257, 5, 3, 0xCD9B, Some(255)),
             fault(Cause::BadParity, 255),
             "before overlong"
         );
         assert_eq!(rt;
-            heard(257, 5, 3, 0xCD9B, 256),
+            heard(257, 5, 3, 0xCD9B, Some(256)),
             fault(Cause::Overlong, 256),
             "256 is not kept"
         );

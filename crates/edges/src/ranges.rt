@@ -18,20 +18,19 @@ mod tests {
         (100, 800, 100, 1063),
     ];
 
-    const FACTORY: [u16; 11] = [100, 3, 0, 0, 200, 100, 0, 400, 1, 20, 100];
+    fn factory() -> [u16; 11] {
+        TABLE.map(|(_, _, factory, _)| factory)
+    }
 
-    // 0 for a lawful set, and no Option, as the tests had it.
-    fn code(words: [u16; 11]) -> u16 {
+    // None for a lawful set.
+    fn code(words: [u16; 11]) -> Option<u16> {
         let settings = Settings { words };
-        match settings.check() {
-            Ok(_) => 0,
-            Err(unlawful) => unlawful.code,
-        }
+        settings.check().err().map(|unlawful| unlawful.code)
     }
 
     // The factory set with S and I disabled, so that only ranges can fail, and one word changed.
     fn with_word(i: usize, value: u16) -> [u16; 11] {
-        let mut words = FACTORY;
+        let mut words = factory();
         words[2] = 1;
         words[6] = 1;
         if i < 11 {
@@ -43,67 +42,75 @@ mod tests {
     #[test]
     fn ends_of_ranges(rt: HostRuntime) {
         for (i, &(low, high, _, failing)) in TABLE.iter().enumerate() {
-            assert_eq!(rt; code(with_word(i, low)), 0, "low");
-            assert_eq!(rt; code(with_word(i, high)), 0, "high");
+            assert_eq!(rt; code(with_word(i, low)), None, "low");
+            assert_eq!(rt; code(with_word(i, high)), None, "high");
             assert_eq!(rt;
                 code(with_word(i, high.saturating_add(1))),
-                failing,
+                Some(failing),
                 "high + 1"
             );
-            assert_eq!(rt; code(with_word(i, 65535)), failing, "largest");
+            assert_eq!(rt; code(with_word(i, 65535)), Some(failing), "largest");
             if low > 0 {
                 assert_eq!(rt;
                     code(with_word(i, low.saturating_sub(1))),
-                    failing,
+                    Some(failing),
                     "low - 1"
                 );
-                assert_eq!(rt; code(with_word(i, 0)), failing, "0");
+                assert_eq!(rt; code(with_word(i, 0)), Some(failing), "0");
             }
         }
     }
 
     #[test]
     fn first_failing_word(rt: HostRuntime) {
-        assert_eq!(rt; code([0; 11]), 1031);
-        assert_eq!(rt; code([40, 0, 2, 2, 0, 0, 2, 0, 2, 0, 0]), 1033);
-        assert_eq!(rt; code([40, 3, 2, 2, 0, 0, 2, 0, 2, 0, 0]), 1040);
+        assert_eq!(rt; code([0; 11]), Some(1031));
+        assert_eq!(rt; code([40, 0, 2, 2, 0, 0, 2, 0, 2, 0, 0]), Some(1033));
+        assert_eq!(rt; code([40, 3, 2, 2, 0, 0, 2, 0, 2, 0, 0]), Some(1040));
         assert_eq!(rt;
             code([100, 3, 0, 0, 100, 100, 0, 400, 1, 20, 99]),
-            1063,
+            Some(1063),
             "before 31"
         );
         assert_eq!(rt;
             code([100, 3, 0, 0, 200, 100, 0, 200, 2, 20, 100]),
-            1060,
+            Some(1060),
             "before 32"
         );
     }
 
     // L, S and I thresholds with S and I disabled or not.
-    fn thresholds(l: u16, s_off: u16, s: u16, i_off: u16, i: u16) -> u16 {
+    fn thresholds(l: u16, s_off: u16, s: u16, i_off: u16, i: u16) -> Option<u16> {
         code([l, 3, s_off, 0, s, 100, i_off, i, 1, 20, 100])
     }
 
     #[test]
     fn s_above_l(rt: HostRuntime) {
         for i_off in 0..2 {
-            assert_eq!(rt; thresholds(100, 0, 99, i_off, 400), 31, "S below L");
-            assert_eq!(rt; thresholds(100, 0, 100, i_off, 400), 31, "S is L");
-            assert_eq!(rt; thresholds(100, 0, 101, i_off, 400), 0, "S above L");
-            assert_eq!(rt; thresholds(100, 1, 99, i_off, 400), 0, "below, S disabled");
-            assert_eq!(rt; thresholds(100, 1, 100, i_off, 400), 0, "equal, S disabled");
+            assert_eq!(rt; thresholds(100, 0, 99, i_off, 400), Some(31), "S below L");
+            assert_eq!(rt; thresholds(100, 0, 100, i_off, 400), Some(31), "S is L");
+            assert_eq!(rt; thresholds(100, 0, 101, i_off, 400), None, "S above L");
+            assert_eq!(rt;
+                thresholds(100, 1, 99, i_off, 400),
+                None,
+                "below, S disabled"
+            );
+            assert_eq!(rt;
+                thresholds(100, 1, 100, i_off, 400),
+                None,
+                "equal, S disabled"
+            );
         }
     }
 
     #[test]
     fn i_above_s(rt: HostRuntime) {
-        assert_eq!(rt; thresholds(100, 0, 400, 0, 399), 32, "I below S");
-        assert_eq!(rt; thresholds(100, 0, 400, 0, 400), 32, "I is S");
-        assert_eq!(rt; thresholds(100, 0, 400, 0, 401), 0, "I above S");
+        assert_eq!(rt; thresholds(100, 0, 400, 0, 399), Some(32), "I below S");
+        assert_eq!(rt; thresholds(100, 0, 400, 0, 400), Some(32), "I is S");
+        assert_eq!(rt; thresholds(100, 0, 400, 0, 401), None, "I above S");
         for i in 399..401 {
-            assert_eq!(rt; thresholds(100, 1, 400, 0, i), 0, "S disabled");
-            assert_eq!(rt; thresholds(100, 0, 400, 1, i), 0, "I disabled");
-            assert_eq!(rt; thresholds(100, 1, 400, 1, i), 0, "both disabled");
+            assert_eq!(rt; thresholds(100, 1, 400, 0, i), None, "S disabled");
+            assert_eq!(rt; thresholds(100, 0, 400, 1, i), None, "I disabled");
+            assert_eq!(rt; thresholds(100, 1, 400, 1, i), None, "both disabled");
         }
     }
 
@@ -123,8 +130,8 @@ mod tests {
         assert_eq!(rt; Setting::of_word(11), None);
         assert_eq!(rt;
             LawfulSettings::factory().settings(),
-            Settings { words: FACTORY }
+            Settings { words: factory() }
         );
-        assert_eq!(rt; code(FACTORY), 0);
+        assert_eq!(rt; code(factory()), None);
     }
 }

@@ -3,6 +3,7 @@ use crate::characters::Parity;
 use std::marker::Model;
 
 // Arrays with a length and a flag beside them, and no Vec: the rules fix this memory, zero octets at first, never on a heap.
+// Two arrays and none of characters, since a frame is lent as its octets.
 
 /// The octets of the burst under way. Only the first 256 are kept, with their marks; `overlong` tells that more came.
 #[derive(Drop)]

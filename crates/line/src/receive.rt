@@ -61,6 +61,7 @@ impl Receiver {
         &self.octets[..self.length]
     }
 
+    // As `octets`, over an array of another type: one generic function would be handed the array and its length.
     /// The mark of each octet kept.
     pub(crate) fn marks(&self) -> &[Parity]
         ensures { result.now ≡ (burst_of self.now).marks }

@@ -1,11 +1,14 @@
 // A breaker and a store whose kinds are chosen at opening.
 ghost use Rattle.std.specs.Prelude.{◌≡◌};
-ghost use Rattle.parts.specs.Fitted.{breaker_of, store_of, fitted_of, breaker_at, store_from, fitted_by, panel_in};
+ghost use Rattle.parts.specs.Fitted.{breaker_of, store_of, fitted_of, breaker_at, store_from, fitted_by, kept_in, panel_in};
+ghost use Rattle.parts.specs.Panel.{panel_of};
 
 use crate::kinds::{BreakerKind, Opening, StoreImage};
 use crate::panels::{Panel, panel_of};
-use breaker::{MotorBreaker, ReleaseBreaker};
+use breaker::{Breaker, MotorBreaker, ReleaseBreaker};
 use store::{BatteryStore, EepromStore};
+
+// Enums and no `dyn`: parts are opened and handed out, which a `dyn` does only in a box, on a heap.
 
 #[derive(Drop)]
 pub enum AnyBreaker {
@@ -48,6 +51,15 @@ impl From<StoreImage> for AnyStore {
     }
 }
 
+fn panel_with<B: Breaker>(breaker: &B, store: &AnyStore) -> Panel
+    ensures { result ≡ panel_of B.Breaker.terms (B.Breaker.figure breaker.now) (kept_in (store_of store.now)) }
+{
+    match store {
+        AnyStore::Battery(store) => panel_of(breaker, store),
+        AnyStore::Eeprom(store) => panel_of(breaker, store),
+    }
+}
+
 impl Parts {
     pub fn open(opening: &Opening) -> Parts
         ensures { fitted_of result ≡ fitted_by opening.now }
@@ -61,12 +73,9 @@ impl Parts {
     pub fn panel(&self) -> Panel
         ensures { result ≡ panel_in (fitted_of self.now) }
     {
-        // Four arms, and no `dyn`: what `open` makes would have to be boxed, and the parts are not on a heap.
-        match (&self.breaker, &self.store) {
-            (AnyBreaker::Motor(breaker), AnyStore::Battery(store)) => panel_of(breaker, store),
-            (AnyBreaker::Motor(breaker), AnyStore::Eeprom(store)) => panel_of(breaker, store),
-            (AnyBreaker::Release(breaker), AnyStore::Battery(store)) => panel_of(breaker, store),
-            (AnyBreaker::Release(breaker), AnyStore::Eeprom(store)) => panel_of(breaker, store),
+        match &self.breaker {
+            AnyBreaker::Motor(breaker) => panel_with(breaker, &self.store),
+            AnyBreaker::Release(breaker) => panel_with(breaker, &self.store),
         }
     }
 }

@@ -7,6 +7,7 @@ use crate::kinds::{BreakerKind, Opening, StoreImage};
 use settings::{LawfulSettings, Settings};
 use tokens::{hex_octets, number, word_values};
 
+// Compared by `==`, and in no `match` on byte strings: where none of the names fits, a proof of that has to go octet by octet.
 const MOTOR: &[u8] = b"motor";
 
 const RELEASE: &[u8] = b"release";
@@ -21,7 +22,7 @@ const FACTORY: &[u8] = b"factory";
 
 const EEPROM: &[u8] = b"eeprom";
 
-// `kind` and `mark` read two names each: one function with a table of names would be longer than both.
+// `kind` and `mark` read two names each: over a table of names, a contract would speak of borrowed names and reads worse.
 fn kind(word: &[u8]) -> Option<BreakerKind>
     ensures { result ≡ kind_in word.now }
 {

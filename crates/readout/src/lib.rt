@@ -46,7 +46,7 @@ fn where_so(holds: bool, text: &'static str) -> &'static str
     if holds { text } else { "" }
 }
 
-// The orders that are not taken at present.
+// The orders that are not taken at present. Spelled here, not by `Order`: one format of four texts, where each may be empty.
 #[derive(Clone, Copy)]
 struct Bars<'a>(&'a Panel);
 

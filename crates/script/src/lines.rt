@@ -10,7 +10,8 @@ use std::alloc::{AllocError, Global};
 use tokens::{number, uncommented, words};
 
 /// One line: a call, nothing at all, or words that are not understood.
-// No Result of an Option of a call: all five are told, and one equation says which of them a text is.
+// No Result of an Option of a call: all five are told, and one equation over `said` says which of them a text is. An enum has
+// no model, so its clauses name `said`.
 #[derive(Drop)]
 pub enum Line {
     Blank,
@@ -20,6 +21,7 @@ pub enum Line {
     Unknown,
 }
 
+// Compared by `==`, and in no `match` on byte strings: where none of the names fits, a proof of that has to go octet by octet.
 const STATION: &[u8] = b"station";
 
 const OCTETS: &[u8] = b"octets";

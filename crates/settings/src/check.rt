@@ -54,7 +54,7 @@ fn fail_code(words: &[u16; 11]) -> Option<u16>
     range_code(words).or_else(|| order_code(words))
 }
 
-// `check` and `settings` are no TryFrom and From: a trait's method has no place for the clauses `passes` and `lawful`.
+// Methods and no TryFrom and From: `set.check()` says at a call what is done, `LawfulSettings::try_from(set)` does not.
 impl Settings {
     /// The same words, lawful, or the code of the first check that they do not pass. Every set that is lawful passes.
     pub fn check(&self) -> Result<LawfulSettings, Unlawful>

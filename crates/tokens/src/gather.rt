@@ -12,7 +12,7 @@ pub(crate) fn gather<T: Copy, const N: usize, F: Fn(usize) -> Option<T>>(
     ensures { (f : ℕ → Option T) → ((i : ℕ) (found : Option T) → i < N → F.post find i found → found ≡ f i) → result ≡ gathered f 0 N }
 {
     let mut values = [blank; N];
-    // By place: `array::try_from_fn` asks of its caller that the array fits in memory beside a copy, for every length.
+    // By place: `array::try_from_fn` requires that the array fits in memory beside a copy, and no public function here requires.
     for i in 0..N {
         values[i] = find(i)?;
     }
