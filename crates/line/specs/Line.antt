@@ -39,16 +39,19 @@ damage_checks b =
     ∷ check (not (crc_fits os)) Cause.WrongCrc
     ∷ []
 
--- a sound burst is for the station with this address if it passes these
-abbrev pub address_checks : ℕ → Burst → List (Check Cause)
-address_checks address b =
-    let os = b.octets in
+-- a frame is what stands before the CRC: address, function and data
+abbrev pub frame_of : List ℕ → List ℕ
+frame_of os = take (length os - 2) os
+
+-- a frame is for the station with this address if it passes these
+abbrev pub address_checks : ℕ → List ℕ → List (Check Cause)
+address_checks address os =
     check (not (address_of os == address) && not (is_broadcast os)) Cause.OtherAddress
     ∷ check (is_broadcast os && not (is_write (function_of os))) Cause.BroadcastFunction
     ∷ []
 
 abbrev pub line_check : ℕ → Burst → Option Cause
-line_check address b = first_failing (damage_checks b ++ address_checks address b)
+line_check address b = first_failing (damage_checks b ++ address_checks address (frame_of b.octets))
 
 -- what the places of a fault are read from: 10h has its values behind a byte count
 abbrev pub points_of : Burst → Points
@@ -61,10 +64,6 @@ points_of b = record {
 
 abbrev pub line_fault : Burst → Cause → LineFault
 line_fault b c = record { cause = c; place = place_of (points_of b) c }
-
--- a frame is what stands before the CRC: address, function and data
-abbrev pub frame_of : List ℕ → List ℕ
-frame_of os = take (length os - 2) os
 
 abbrev pub judged : {A : Type 0} → Burst → A → Option Cause → Result A LineFault
 judged b a None = Ok a

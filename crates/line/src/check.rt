@@ -1,5 +1,6 @@
 // The line's checks, tried downwards.
-ghost use Rattle.std.specs.Prelude.{◌≡◌, ◌≤◌, length, Err};
+ghost use Rattle.std.specs.Prelude.{◌≡◌, Err};
+ghost use Rattle.line.specs.Burst.{Burst};
 ghost use Rattle.line.specs.Memory.{burst_of};
 ghost use Rattle.line.specs.Line.{good_marks, damage_checks, address_checks, frame_of, judged, reception};
 ghost use Rattle.outcome.specs.Checks.{first_failing};
@@ -27,6 +28,19 @@ fn fails<T>(cause: Cause, place: usize) -> Result<T, LineFault>
     Err(LineFault { cause, place })
 }
 
+// Whether a frame is for the station with this address.
+fn addressed(frame: &Frame<'_>, address: u8) -> Result<(), LineFault>
+    ensures { (b : Burst) → result ≡ judged b tt (first_failing (address_checks address frame.now)) }
+{
+    if frame.address() != address && !frame.is_broadcast() {
+        return fails(Cause::OtherAddress, 0);
+    }
+    if frame.is_broadcast() && !matches!(frame.function(), 0x06 | 0x10) {
+        return fails(Cause::BroadcastFunction, 1);
+    }
+    Ok(())
+}
+
 impl Receiver {
     /// What the burst under way is to the station with this address: a frame, or none where there are no octets.
     pub fn reception(&self, address: u8) -> Result<Option<Frame<'_>>, LineFault>
@@ -36,7 +50,7 @@ impl Receiver {
             return Ok(None);
         }
         let frame = self.sound()?;
-        self.addressed(address)?;
+        addressed(&frame, address)?;
         Ok(Some(frame))
     }
 
@@ -63,22 +77,5 @@ impl Receiver {
             return fails(Cause::WrongCrc, body.len());
         }
         Ok(Frame::new(body))
-    }
-
-    // Whether a sound burst is for the station with this address.
-    fn addressed(&self, address: u8) -> Result<(), LineFault>
-        requires { 4 ≤ length (burst_of self.now).octets }
-        ensures { result ≡ judged (burst_of self.now) tt (first_failing (address_checks address (burst_of self.now))) }
-    {
-        let [to, function, ..] = self.octets() else {
-            unreachable!();
-        };
-        if *to != address && *to != 0 {
-            return fails(Cause::OtherAddress, 0);
-        }
-        if *to == 0 && *function != 0x06 && *function != 0x10 {
-            return fails(Cause::BroadcastFunction, 1);
-        }
-        Ok(())
     }
 }

@@ -63,7 +63,7 @@ impl Settings {
     {
         match fail_code(&self.words) {
             Some(code) => Err(Unlawful { code }),
-            None => Ok(LawfulSettings { words: self.words }),
+            None => Ok(LawfulSettings { settings: *self }),
         }
     }
 }
@@ -73,8 +73,9 @@ impl LawfulSettings {
     pub fn factory() -> LawfulSettings
         ensures { result ≡ factory_set }
     {
+        let words = TABLE.map(|setting| setting.factory);
         LawfulSettings {
-            words: TABLE.map(|setting| setting.factory),
+            settings: Settings { words },
         }
     }
 
@@ -83,6 +84,6 @@ impl LawfulSettings {
         ensures value { result.words ≡ self.now }
         ensures lawful { Lawful result.words }
     {
-        Settings { words: self.words }
+        self.settings
     }
 }

@@ -1,21 +1,22 @@
 // A set that has passed every check.
-ghost use Rattle.std.specs.Prelude.{◌≡◌, ℕ, List, true};
+ghost use Rattle.std.specs.Prelude.{◌≡◌, ℕ, List, length, true};
 ghost use Rattle.settings.specs.Checks.{is_lawful};
 
+use crate::words::Settings;
 use std::marker::Model;
 
 /// Eleven words that pass all thirteen checks. A check makes one, and so does the factory set; nothing else can.
 #[derive(Clone, Copy, PartialEq, Eq, Debug)]
 pub struct LawfulSettings {
-    pub(crate) words: [u16; 11],
+    pub(crate) settings: Settings,
 }
 
 impl Model for LawfulSettings {
     ghost Value = { List ℕ };
 
-    ghost view = { λ s. s.words };
+    ghost view = { λ s. s.settings.words };
 
-    ghost invariant = { λ s. is_lawful s.words ≡ true };
+    ghost invariant = { λ s. (length s.settings.words ≡ 11) × (is_lawful s.settings.words ≡ true) };
 
-    ghost inverse = { λ ws. record { words = ws } };
+    ghost inverse = { λ ws. record { settings = record { words = ws } } };
 }

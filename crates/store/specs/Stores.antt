@@ -11,10 +11,10 @@ abbrev pub battery : StoreTerms (Unit {0})
 battery = record { write_time = 0; put = λ c ws. c; tick = λ c k. c }
 
 abbrev pub kept_by_battery : BatteryStore → Kept
-kept_by_battery b = kept b.words b.sound 0
+kept_by_battery b = kept b.settings.words b.sound 0
 
 abbrev pub kept_by_eeprom : EepromStore → Kept
-kept_by_eeprom e = kept e.words e.sound e.busy
+kept_by_eeprom e = kept e.settings.words e.sound e.busy
 
 -- the congruency octet: the low octet of the octets' sum plus 55h
 abbrev pub congruency : List ℕ → ℕ

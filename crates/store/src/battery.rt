@@ -13,8 +13,7 @@ impl BatteryStore {
     pub fn new(settings: Settings, sound: bool) -> BatteryStore
         ensures { kept_by_battery result ≡ kept settings.words sound 0 }
     {
-        let words = settings.words;
-        BatteryStore { words, sound }
+        BatteryStore { settings, sound }
     }
 }
 
@@ -30,7 +29,7 @@ impl Store for BatteryStore {
     ghost laws = { Prim.search rules };
 
     fn settings(&self) -> Settings {
-        Settings { words: self.words }
+        self.settings
     }
 
     fn is_sound(&self) -> bool {
@@ -42,9 +41,7 @@ impl Store for BatteryStore {
     }
 
     fn put(&mut self, settings: LawfulSettings) -> Result<(), Busy> {
-        let words = settings.settings().words;
-        self.words = words;
-        self.sound = true;
+        *self = BatteryStore::new(settings.settings(), true);
         Ok(())
     }
 

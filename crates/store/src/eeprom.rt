@@ -32,7 +32,7 @@ impl EepromStore {
         let sound = octets[22] == congruency(&octets[0..22]);
         EepromStore {
             octets,
-            words,
+            settings: Settings { words },
             sound,
             busy: 0,
         }
@@ -59,7 +59,7 @@ impl Store for EepromStore {
     ghost laws = { Prim.search rules };
 
     fn settings(&self) -> Settings {
-        Settings { words: self.words }
+        self.settings
     }
 
     fn is_sound(&self) -> bool {
@@ -74,16 +74,18 @@ impl Store for EepromStore {
         if self.busy != 0 {
             return Err(Busy);
         }
-        let words = settings.settings().words;
-        self.words = words;
-        self.sound = true;
-        self.busy = 3;
+        *self = EepromStore {
+            octets: self.octets,
+            settings: settings.settings(),
+            sound: true,
+            busy: 3,
+        };
         Ok(())
     }
 
     fn tick(&mut self) {
         if self.busy > 0 {
-            let image = image(&self.words);
+            let image = image(&self.settings.words);
             write_eight(&mut self.octets, &image, 8 * usize::from(3 - self.busy));
             self.busy -= 1;
         }

@@ -12,6 +12,7 @@ pub fn number(word: &[u8]) -> Option<u32>
     if word.is_empty() {
         return None;
     }
+    // A loop: of a `try_fold`, the proof that it is `number_in` did not close.
     let mut n = 0u32;
     for c in word {
         if !c.is_ascii_digit() || n >= 10_000 {
