@@ -6,6 +6,7 @@
 A hit is a place to look at; which hits are places, the page says by name.
 """
 import collections
+import itertools
 import pathlib
 import re
 import sys
@@ -18,12 +19,11 @@ LINES = [
     ("4, comparisons", r"fn (is|same|eq|cmp|copy|clone)(_\w+)?\("),
     ("4, conversions", r" as u(8|16|32)|256 \*|/ 256|% 256|char::from\(|c - (48|55|87)|\(word >> \d\)"),
     ("4, printing", r"fn \w*(name|text|digit|with_octet|with_word)\w*[<(]"),
-    ("5, parameters that travel together", r"^ +number: usize,$|number: usize, text: |value: u8, parity: Parity"),
     ("6, lengths, places and arrays in a struct", r"^    (pub(\(crate\))? )?\w+: (usize|\[\w+; \d+\]),"),
     ("7, flags and functions handed over", r"\bfn .*: bool[,)]|: fn\(|\bdyn "),
 ]
 
-VIEWS = r"\b(\w+_of|spelt|kept_by_\w+|answered|told) (?=self|result|listener|\(?words|rest|heard|c\b)"
+VIEWS = r"\b(\w+_of|spelt|said|kept_by_\w+|answered|told)\b"
 
 
 def sources(top):
@@ -84,19 +84,37 @@ def twins(top):
         print("  ~ ".join(group))
 
 
+def parameters(text):
+    """The parameters of each signature, as `name: type`, without a receiver."""
+    for found in re.finditer(r"\bfn \w+(?:<[^(]*>)?\(([^)]*)\)", text):
+        yield {" ".join(p.split()) for p in found.group(1).split(",") if ":" in p}
+
+
+def together(top):
+    pairs = collections.Counter()
+    for path, lines in sources(top):
+        for names in parameters("\n".join(l for l in lines if not is_comment(l))):
+            pairs.update(itertools.combinations(sorted(names), 2))
+    often = [(pair, n) for pair, n in pairs.most_common() if n > 2]
+    print(f"\n== point 5, pairs of parameters in three functions or more: {len(often)}")
+    for (one, other), n in often:
+        print(f"{one}, {other}: {n} functions")
+
+
 def views(top):
     count = collections.Counter()
     for _, lines in sources(top):
         for line in lines:
             if re.match(r"^ +(ensures|requires) ", line):
                 count.update(set(re.findall(VIEWS, line)))
-    print(f"\n== point 5, views of a value in clauses, in three or more: {sum(1 for n in count.values() if n > 2)}")
-    for name, n in count.most_common():
-        if n > 2:
-            print(f"{name}: {n} clauses")
+    often = [(name, n) for name, n in count.most_common() if n > 2]
+    print(f"\n== point 5, views of a value in three clauses or more: {len(often)}")
+    for name, n in often:
+        print(f"{name}: {n} clauses")
 
 
 top = pathlib.Path(sys.argv[1] if len(sys.argv) > 1 else pathlib.Path(__file__).resolve().parent.parent)
 by_line(top)
 twins(top)
+together(top)
 views(top)

@@ -1,6 +1,7 @@
 // A set of settings as it comes, lawful or not.
 
 /// Eleven words, one for each setting.
+// A public field and no view of it, though clauses name it: whoever has eleven words may write them.
 #[derive(Clone, Copy, PartialEq, Eq, Debug)]
 pub struct Settings {
     pub words: [u16; 11],

@@ -35,7 +35,7 @@ pub fn hex_octet(text: &[u8], place: usize) -> Option<u8>
     ensures { result ≡ hex_octet text.now place }
 {
     let high = hex_digit(*text.get(place)?)?;
-    let low = hex_digit(*text.get(place.saturating_add(1))?)?;
+    let low = hex_digit(*text.get(place + 1)?)?;
     Some(16 * high + low)
 }
 
