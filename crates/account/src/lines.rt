@@ -12,6 +12,7 @@ use crate::texts::silence_text;
 use script::{Line, parse};
 use std::alloc::{AllocError, Global};
 
+// Octets and no String: the text may be any octets at all.
 fn unknown_text(heap: Global, source: &Source<'_>) -> Result<Vec<u8>, AllocError>
     ensures { IfOk result (λ v. v.items ≡ (codes "line " ++ (decimal source.now.number ++ codes ": not understood: ")) ++ source.now.text.now) }
 {

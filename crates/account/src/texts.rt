@@ -1,6 +1,6 @@
 // What is told, as text.
 ghost use Rattle.std.specs.Prelude.{◌≡◌, ◌++◌, map, IfOk, string_bytes, codes};
-ghost use Rattle.account.specs.Texts.{hex_octets, frame_text, silence_text};
+ghost use Rattle.account.specs.Texts.{hex_octets, silence_text};
 ghost use Rattle.line.specs.Burst.{good};
 ghost use Rattle.script.specs.Lines.{octets as brings, line_said};
 
@@ -21,14 +21,6 @@ fn octets_text(heap: Global, octets: &[u8]) -> Result<String, AllocError>
     Ok(text)
 }
 
-fn frame_text(heap: Global, octets: &[u8]) -> Result<String, AllocError>
-    ensures { IfOk result (λ s. string_bytes s ≡ frame_text octets.now) }
-{
-    let count = octets.len();
-    let text = octets_text(heap, octets)?;
-    format!(in heap; "silence: frame, {count} octets:{text}")
-}
-
 /// What a silence tells.
 pub(crate) fn silence_text(
     heap: Global,
@@ -38,7 +30,11 @@ pub(crate) fn silence_text(
 {
     match heard {
         Ok(None) => String::from_str(heap, "silence: idle"),
-        Ok(Some(frame)) => frame_text(heap, frame.octets()),
+        Ok(Some(frame)) => {
+            let count = frame.octets().len();
+            let octets = octets_text(heap, frame.octets())?;
+            format!(in heap; "silence: frame, {count} octets:{octets}")
+        }
         Err(unheard) => format!(in heap; "silence: {unheard}"),
     }
 }

@@ -1,6 +1,6 @@
 // A breaker that reads its contacts, with a drive of some kind.
 ghost use Rattle.std.specs.Prelude.{◌≡◌};
-ghost use Rattle.breaker.specs.Contacts.{by_contacts, started};
+ghost use Rattle.breaker.specs.Contacts.{by_contacts, started, motor, release};
 ghost use Rattle.breaker.specs.declared.contacts.Contacts.{Contacts};
 ghost use Rattle.std.proofs.Common.{rules};
 
@@ -24,8 +24,11 @@ pub type MotorBreaker = ContactBreaker<Motor>;
 pub type ReleaseBreaker = ContactBreaker<Release>;
 
 impl<D: Drive> ContactBreaker<D> {
+    /// It starts from a contact word with an empty hand. The two breakers keep the terms that are written down for them.
     pub fn new(word: u32) -> ContactBreaker<D>
-        ensures { result.contacts ≡ started word }
+        ensures started { result.contacts ≡ started word }
+        ensures motor { ⟦<MotorBreaker as Breaker>⟧.terms ≡ motor }
+        ensures release { ⟦<ReleaseBreaker as Breaker>⟧.terms ≡ release }
     {
         ContactBreaker {
             contacts: Contacts::new(word),

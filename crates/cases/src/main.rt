@@ -37,6 +37,7 @@ const PUBLISHED: [&'static [u8]; 17] = [
     &[0x01, 0x03, 0x00, 0x00, 0x00, 0x0A, 0xC5, 0xCD],
 ];
 
+// Not by the line, which also asks for lengths and addresses: the published values are for the CRC alone.
 // Whether the CRC of what stands before the last two octets is what they say, low octet first.
 fn crc_agrees(frame: &[u8]) -> bool
     ensures { result ≡ crc_agrees frame.now }

@@ -1,6 +1,7 @@
 // What a station opens from.
-ghost use Rattle.std.specs.Prelude.{◌≡◌};
-ghost use Rattle.parts.specs.Reading.{at_first};
+ghost use Rattle.std.specs.Prelude.{◌≡◌, true};
+ghost use Rattle.parts.specs.Reading.{battery_with, at_first};
+ghost use Rattle.settings.specs.Table.{factory_set};
 
 use settings::{LawfulSettings, Settings};
 
@@ -18,6 +19,18 @@ pub enum StoreImage {
     Eeprom { octets: [u8; 23] },
 }
 
+impl StoreImage {
+    /// A battery store with the factory settings.
+    pub(crate) fn factory() -> StoreImage
+        ensures { result ≡ battery_with factory_set true }
+    {
+        StoreImage::Battery {
+            settings: LawfulSettings::factory().settings(),
+            sound: true,
+        }
+    }
+}
+
 /// Breaker, contact word at the start, store and address.
 #[derive(Clone, Copy, PartialEq, Eq, Debug)]
 pub struct Opening {
@@ -32,14 +45,10 @@ impl Opening {
     pub fn at_first() -> Opening
         ensures { result ≡ at_first }
     {
-        let settings = LawfulSettings::factory().settings();
         Opening {
             breaker: BreakerKind::Motor,
             contacts: 0,
-            store: StoreImage::Battery {
-                settings,
-                sound: true,
-            },
+            store: StoreImage::factory(),
             address: 247,
         }
     }

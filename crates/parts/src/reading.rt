@@ -4,10 +4,10 @@ ghost use Rattle.parts.specs.Reading.{kind_in, contacts_in, mark_in, short_store
 ghost use Rattle.tokens.specs.Words.{spelt};
 
 use crate::kinds::{BreakerKind, Opening, StoreImage};
-use settings::{LawfulSettings, Settings};
+use settings::Settings;
 use tokens::{hex_octets, number, word_values};
 
-// Compared by `==`, and in no `match` on byte strings: where none of the names fits, a proof of that has to go octet by octet.
+// Compared by `==`: a `match` on byte strings was tried, and its way where no name fits, some twenty cases, did not prove.
 const MOTOR: &[u8] = b"motor";
 
 const RELEASE: &[u8] = b"release";
@@ -59,11 +59,7 @@ fn short_store(name: &[u8], word: &[u8]) -> Option<StoreImage>
     ensures { result ≡ short_store name.now word.now }
 {
     if name == BATTERY && word == FACTORY {
-        let settings = LawfulSettings::factory().settings();
-        return Some(StoreImage::Battery {
-            settings,
-            sound: true,
-        });
+        return Some(StoreImage::factory());
     }
     if name == EEPROM {
         let octets = hex_octets(word)?;

@@ -11,7 +11,7 @@ use tokens::{number, uncommented, words};
 
 /// One line: a call, nothing at all, or words that are not understood.
 // No Result of an Option of a call: all five are told, and one equation over `said` says which of them a text is. An enum has
-// no model, so its clauses name `said`.
+// no model, so its clauses name `said`; in a struct, every `match` would go through a field.
 #[derive(Drop)]
 pub enum Line {
     Blank,
@@ -21,7 +21,7 @@ pub enum Line {
     Unknown,
 }
 
-// Compared by `==`, and in no `match` on byte strings: where none of the names fits, a proof of that has to go octet by octet.
+// Compared by `==`: a `match` on byte strings was tried, and its way where no name fits, some twenty cases, did not prove.
 const STATION: &[u8] = b"station";
 
 const OCTETS: &[u8] = b"octets";

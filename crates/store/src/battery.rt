@@ -28,6 +28,7 @@ impl Store for BatteryStore {
 
     ghost laws = { Prim.search rules };
 
+    // This and `is_sound` are alike in both stores: a struct of settings and mark in both would need as many lines.
     fn settings(&self) -> Settings {
         self.settings
     }

@@ -28,6 +28,7 @@ impl EepromStore {
         ensures recalled { Recalled octets (kept_by_eeprom result) }
         ensures damage { DamageSeen octets (kept_by_eeprom result) }
     {
+        // By place: a slice pattern over the array was tried, and the check does not cover it.
         let words = words_in(&octets);
         let sound = octets[22] == congruency(&octets[0..22]);
         EepromStore {
@@ -58,6 +59,7 @@ impl Store for EepromStore {
 
     ghost laws = { Prim.search rules };
 
+    // This and `is_sound` are alike in both stores: a struct of settings and mark in both would need as many lines.
     fn settings(&self) -> Settings {
         self.settings
     }

@@ -22,7 +22,6 @@ pub trait Store {
     fn settings(&self) -> Settings
         ensures { result.words ≡ (kept self.now).words };
 
-    // The two stores answer this and `settings` alike: a struct of words and mark in both would need as many lines.
     fn is_sound(&self) -> bool
         ensures { result ≡ (kept self.now).sound };
 
