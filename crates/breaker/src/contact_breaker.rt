@@ -24,7 +24,8 @@ pub type MotorBreaker = ContactBreaker<Motor>;
 pub type ReleaseBreaker = ContactBreaker<Release>;
 
 impl<D: Drive> ContactBreaker<D> {
-    /// It starts from a contact word with an empty hand. The two breakers keep the terms that are written down for them.
+    /// It starts from a contact word with an empty hand. With the motor it keeps the terms of the motor breaker, with the
+    /// release those of the release breaker.
     pub fn new(word: u32) -> ContactBreaker<D>
         ensures started { result.contacts ≡ started word }
         ensures motor { ⟦<MotorBreaker as Breaker>⟧.terms ≡ motor }

@@ -37,8 +37,8 @@ const PUBLISHED: [&'static [u8]; 17] = [
     &[0x01, 0x03, 0x00, 0x00, 0x00, 0x0A, 0xC5, 0xCD],
 ];
 
-// Not by the line, which also asks for lengths and addresses: the published values are for the CRC alone.
-// Whether the CRC of what stands before the last two octets is what they say, low octet first.
+// Whether the CRC of what stands before the last two octets is what they say, low octet first. Not asked of the line, which
+// also looks at lengths and addresses: the published values are for the CRC alone.
 fn crc_agrees(frame: &[u8]) -> bool
     ensures { result ≡ crc_agrees frame.now }
 {

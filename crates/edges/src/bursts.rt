@@ -6,7 +6,9 @@ mod tests {
 
     const NONE: Option<usize> = None;
 
-    // What the tests expect of a frame, which is not compared by `==`: its address, whether it is a broadcast, and where its function, its data and its CRC stand. A burst that is too short for a place has none.
+    // What the tests expect of a frame: its address, whether it is a broadcast, and where its function, its data and its CRC stand.
+    // A frame is not compared by `==`, and those of 253 and 254 octets would be expected octet by octet. A place is `None` where
+    // what should stand there does not.
     #[derive(Clone, Copy, PartialEq, Eq, Debug)]
     struct Seen {
         address: u8,

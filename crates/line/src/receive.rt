@@ -61,8 +61,8 @@ impl Receiver {
         &self.octets[..self.length]
     }
 
-    // As `octets`, over an array of another type: one generic function would be handed the array and its length.
     /// The mark of each octet kept.
+    // As `octets`, over an array of another type: one generic function would be handed the array and its length.
     pub(crate) fn marks(&self) -> &[Parity]
         ensures { result.now ≡ (burst_of self.now).marks }
     {

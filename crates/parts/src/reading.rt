@@ -22,7 +22,7 @@ const FACTORY: &[u8] = b"factory";
 
 const EEPROM: &[u8] = b"eeprom";
 
-// `kind` and `mark` read two names each: over a table of names, a contract would speak of borrowed names and reads worse.
+// `kind` and `mark` read two names each: over a table of names, a contract would speak of borrowed names and read worse.
 fn kind(word: &[u8]) -> Option<BreakerKind>
     ensures { result ≡ kind_in word.now }
 {

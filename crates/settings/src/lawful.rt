@@ -5,8 +5,8 @@ ghost use Rattle.settings.specs.Checks.{is_lawful};
 use crate::words::Settings;
 use std::marker::Model;
 
-// That the words are eleven is said here and not at `Settings`: with a ghost field of its own, no definition could write one down.
 /// Eleven words that pass all thirteen checks. A check makes one, and so does the factory set; nothing else can.
+// That they are eleven is said here and not at `Settings`: if that had a ghost field, no definition could write one down.
 #[derive(Clone, Copy, PartialEq, Eq, Debug)]
 pub struct LawfulSettings {
     pub(crate) settings: Settings,

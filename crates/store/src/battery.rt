@@ -42,7 +42,8 @@ impl Store for BatteryStore {
     }
 
     fn put(&mut self, settings: LawfulSettings) -> Result<(), Busy> {
-        *self = BatteryStore::new(settings.settings(), true);
+        self.settings = settings.settings();
+        self.sound = true;
         Ok(())
     }
 

@@ -28,9 +28,10 @@ impl EepromStore {
         ensures recalled { Recalled octets (kept_by_eeprom result) }
         ensures damage { DamageSeen octets (kept_by_eeprom result) }
     {
-        // By place: a slice pattern over the array was tried, and the check does not cover it.
         let words = words_in(&octets);
-        let sound = octets[22] == congruency(&octets[0..22]);
+        // By place: a pattern that binds the first 22 was tried, by value and by reference, and the borrow check does not
+        // cover it; over a slice it would need an arm that is never taken.
+        let sound = octets[22] == congruency(&octets[..22]);
         EepromStore {
             octets,
             settings: Settings { words },
@@ -76,12 +77,9 @@ impl Store for EepromStore {
         if self.busy != 0 {
             return Err(Busy);
         }
-        *self = EepromStore {
-            octets: self.octets,
-            settings: settings.settings(),
-            sound: true,
-            busy: 3,
-        };
+        self.settings = settings.settings();
+        self.sound = true;
+        self.busy = 3;
         Ok(())
     }
 

@@ -3,8 +3,9 @@ ghost use Rattle.std.specs.Prelude.{◌≡◌, ◌≤◌, length};
 
 use settings::Settings;
 
-// The marks are flags, and no Option of the words: an unsound store has words too, and tells them. That the words are eleven is
-// said here and not at `Settings`: with a ghost field of its own, no definition could write one down.
+// The marks are flags, and no Option of the words: an unsound store has words too, and tells them.
+//
+// That the words are eleven is said here and not at `Settings`: if that had a ghost field, no definition could write one down.
 
 /// A store whose memory a battery keeps: eleven words and a mark. It writes at once.
 #[derive(Drop)]
