@@ -31,7 +31,7 @@ impl EepromStore {
         let words = words_in(&octets);
         // By place: a pattern that binds the first 22 was tried, by value and by reference, and the borrow check does not
         // cover it; over a slice it would need an arm that is never taken.
-        let sound = octets[22] == congruency(&octets[..22]);
+        let sound = octets[22] == congruency(&octets[0..22]);
         EepromStore {
             octets,
             settings: Settings { words },
