@@ -23,11 +23,27 @@ good_marks ps = prefix_len is_good ps
 abbrev pub is_write : ℕ → Bool
 is_write f = f == 0x06 || f == 0x10
 
--- the last two octets are the CRC of those before, low octet first
-abbrev pub crc_fits : List ℕ → Bool
-crc_fits os =
+-- a frame is what stands before the CRC: address, function and data
+abbrev pub frame_of : List ℕ → List ℕ
+frame_of os = take (length os - 2) os
+
+-- the last two octets, low octet first
+abbrev pub crc_carried : List ℕ → ℕ
+crc_carried os =
     let n = length os - 2 in
-    (crc_of (take n os) == slice_index os n + 256 * slice_index os (n + 1))
+    slice_index os n + 256 * slice_index os (n + 1)
+
+-- they are the CRC of those before
+abbrev pub crc_fits : List ℕ → Bool
+crc_fits os = crc_of (frame_of os) == crc_carried os
+
+-- address, function and CRC are four
+abbrev pub is_too_short : List ℕ → Bool
+is_too_short os = nat_lt (length os) 4
+
+-- octets as a frame and the CRC that it carries, unless they are too short
+abbrev pub parted : List ℕ → Option (List ℕ × ℕ)
+parted os = cond (is_too_short os) None (Some (frame_of os, crc_carried os))
 
 -- a burst is sound if it passes these
 abbrev pub damage_checks : Burst → List (Check Cause)
@@ -35,13 +51,9 @@ damage_checks b =
     let os = b.octets in
     check (nat_lt (good_marks b.marks) (length b.marks)) Cause.BadParity
     ∷ check b.overlong Cause.Overlong
-    ∷ check (nat_lt (length os) 4) Cause.TooShort
+    ∷ check (is_too_short os) Cause.TooShort
     ∷ check (not (crc_fits os)) Cause.WrongCrc
     ∷ []
-
--- a frame is what stands before the CRC: address, function and data
-abbrev pub frame_of : List ℕ → List ℕ
-frame_of os = take (length os - 2) os
 
 -- a frame is for the station with this address if it passes these
 abbrev pub address_checks : ℕ → List ℕ → List (Check Cause)

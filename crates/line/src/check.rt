@@ -67,15 +67,12 @@ impl Receiver {
             return fails(Cause::Overlong, 256);
         }
         let octets = self.octets();
-        if octets.len() < 4 {
+        let Some((frame, crc)) = Frame::parted(octets) else {
             return fails(Cause::TooShort, octets.len());
-        }
-        let [body @ .., low, high] = octets else {
-            unreachable!();
         };
-        if crc_of(body) != u16::from_le_bytes([*low, *high]) {
-            return fails(Cause::WrongCrc, body.len());
+        if crc_of(frame.octets()) != crc {
+            return fails(Cause::WrongCrc, frame.octets().len());
         }
-        Ok(Frame::new(body))
+        Ok(frame)
     }
 }

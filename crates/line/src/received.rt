@@ -1,6 +1,7 @@
 // A sound frame for this station.
 ghost use Rattle.std.specs.Prelude.{◌≡◌, ℕ, ◌≤◌, List, length, drop};
 ghost use Rattle.line.specs.Frames.{address_of, function_of, is_broadcast};
+ghost use Rattle.line.specs.Line.{parted};
 
 use std::marker::Model;
 
@@ -19,11 +20,16 @@ impl<'a> Model for Frame<'a> {
 }
 
 impl<'a> Frame<'a> {
-    pub(crate) fn new(octets: &'a [u8]) -> Frame<'a>
-        requires { 2 ≤ length octets.now }
-        ensures { result ≡ octets.now }
+    /// Octets off the wire as a frame and the CRC that it carries; `None` where they are too short for that.
+    pub(crate) fn parted(octets: &'a [u8]) -> Option<(Frame<'a>, u16)>
+        ensures { result ≡ parted octets.now }
     {
-        Frame { octets }
+        match octets {
+            [body @ .., low, high] if body.len() >= 2 => {
+                Some((Frame { octets: body }, u16::from_le_bytes([*low, *high])))
+            }
+            _ => None,
+        }
     }
 
     pub fn address(&self) -> u8

@@ -23,10 +23,13 @@ mark_in w = cond (bytes_eq w (codes "sound")) (Some true) (cond (bytes_eq w (cod
 abbrev pub battery_with : List ℕ → Bool → StoreImage
 battery_with ws mark = StoreImage.Battery (record { words = ws }) mark
 
+abbrev pub factory_store : StoreImage
+factory_store = battery_with factory_set true
+
 -- `battery factory`, or `eeprom` and its 23 octets
 abbrev pub short_store : List ℕ → List ℕ → Option StoreImage
 short_store name w =
-    cond (bytes_eq name (codes "battery") && bytes_eq w (codes "factory")) (Some (battery_with factory_set true))
+    cond (bytes_eq name (codes "battery") && bytes_eq w (codes "factory")) (Some factory_store)
     (cond (bytes_eq name (codes "eeprom")) (and_then (hex_octets 23 w) (λ os. Some (StoreImage.Eeprom os))) None)
 
 -- `battery`, a mark and eleven words
@@ -56,4 +59,4 @@ opening_in ws = None
 
 -- before a script opens a station: a motor breaker that is open, the factory settings, and the address 247
 abbrev pub at_first : Opening
-at_first = record { breaker = BreakerKind.Motor; contacts = 0; store = battery_with factory_set true; address = 247 }
+at_first = record { breaker = BreakerKind.Motor; contacts = 0; store = factory_store; address = 247 }

@@ -1,7 +1,6 @@
 // What a station opens from.
-ghost use Rattle.std.specs.Prelude.{◌≡◌, true};
-ghost use Rattle.parts.specs.Reading.{battery_with, at_first};
-ghost use Rattle.settings.specs.Table.{factory_set};
+ghost use Rattle.std.specs.Prelude.{◌≡◌};
+ghost use Rattle.parts.specs.Reading.{factory_store, at_first};
 
 use settings::{LawfulSettings, Settings};
 
@@ -22,7 +21,7 @@ pub enum StoreImage {
 impl StoreImage {
     /// A battery store with the factory settings.
     pub(crate) fn factory() -> StoreImage
-        ensures { result ≡ battery_with factory_set true }
+        ensures { result ≡ factory_store }
     {
         StoreImage::Battery {
             settings: LawfulSettings::factory().settings(),

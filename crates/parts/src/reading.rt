@@ -7,7 +7,7 @@ use crate::kinds::{BreakerKind, Opening, StoreImage};
 use settings::Settings;
 use tokens::{hex_octets, number, word_values};
 
-// Compared by `==`: a `match` on byte strings was tried, and its way where no name fits, some twenty cases, did not prove.
+// Compared by `==`: in a `match` on byte strings, the way where no name fits has some twenty cases, and they did not prove.
 const MOTOR: &[u8] = b"motor";
 
 const RELEASE: &[u8] = b"release";

@@ -21,7 +21,7 @@ pub enum Line {
     Unknown,
 }
 
-// Compared by `==`: a `match` on byte strings was tried, and its way where no name fits, some twenty cases, did not prove.
+// Compared by `==`: in a `match` on byte strings, the way where no name fits has some twenty cases, and they did not prove.
 const STATION: &[u8] = b"station";
 
 const OCTETS: &[u8] = b"octets";
