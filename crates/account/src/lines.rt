@@ -1,6 +1,7 @@
 // A line of a script: what is told of it, and what it does.
 ghost use Rattle.std.specs.Prelude.{◌≡◌, ◌++◌, is_ok, IfOk, if◌then◌else◌, string_bytes, codes, decimal};
 ghost use Rattle.account.specs.Listening.{next};
+ghost use Rattle.account.specs.State.{Within};
 ghost use Rattle.account.specs.Texts.{account_of};
 ghost use Rattle.script.specs.Lines.{said, line_said};
 ghost use Rattle.std.specs.Option.{option_map};
@@ -44,8 +45,11 @@ fn account(
 impl Listener {
     // What a line does.
     fn take(&mut self, line: &Line)
-        ensures { self.new ≡ next self.old (said line.now) }
+        ensures value { self.new ≡ next self.old (said line.now) }
+        ensures within { (Within self.old) × (Within self.new) }
     {
+        // Brings in what every listener keeps to, for a line that does nothing.
+        let _ = &self.address;
         match line {
             Line::Blank | Line::Unknown => {}
             Line::Station(address) => *self = Listener::open(*address),
@@ -64,7 +68,10 @@ pub fn play(
 ) -> Result<Option<Vec<u8>>, AllocError>
     ensures told { IfOk result (λ o. option_map (λ v. v.items) o ≡ account_of source.now.number source.now.text.now listener.old (line_said source.now.text.now)) }
     ensures after { listener.new ≡ (if is_ok result then next listener.old (line_said source.now.text.now) else listener.old) }
+    ensures within { (Within listener.old) × (Within listener.new) }
 {
+    // Brings in what every listener keeps to, for a line that finds no memory.
+    let _ = &listener.address;
     let line = parse(heap, source.text)?;
     let told = account(heap, listener, source, &line)?;
     listener.take(&line);

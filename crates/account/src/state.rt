@@ -11,9 +11,11 @@ pub struct Listener {
 
 impl Model for Listener {
     ghost use Rattle.line.specs.Memory.{burst_of};
-    ghost use Rattle.account.specs.State.{Listening, listening};
+    ghost use Rattle.account.specs.State.{Listening, Within, listening};
 
     ghost Value = { Listening };
 
     ghost view = { λ l. listening l.address (burst_of l.receiver) };
+
+    ghost invariant = { λ l. Within (listening l.address (burst_of l.receiver)) };
 }

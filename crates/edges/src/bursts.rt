@@ -7,8 +7,7 @@ mod tests {
     const NONE: Option<usize> = None;
 
     // What the tests expect of a frame: its address, whether it is a broadcast, and where its function, its data and its CRC stand.
-    // A frame is not compared by `==`, and those of 253 and 254 octets would be expected octet by octet. A place is `None` where
-    // what should stand there does not.
+    // Frames of 253 and 254 octets would be expected octet by octet. A place is `None` where what should stand there does not.
     #[derive(Clone, Copy, PartialEq, Eq, Debug)]
     struct Seen {
         address: u8,
@@ -18,14 +17,14 @@ mod tests {
         end: usize,
     }
 
-    // What comes of a burst of so many octets: address, function, zeros, and the CRC at its end. The octet at `bad`, if any, has bad parity.
-    fn heard(
+    // A burst of so many octets: address, function, zeros, and the CRC at its end. The octet at `bad`, if any, has bad parity.
+    fn received(
         length: usize,
         address: u8,
         function: u8,
         crc: u16,
         bad: Option<usize>,
-    ) -> Result<Option<Seen>, LineFault> {
+    ) -> Receiver {
         let mut receiver = Receiver::new();
         let [low, high] = crc.to_le_bytes();
         for i in 0..length {
@@ -43,6 +42,18 @@ mod tests {
             };
             receiver.octet(Character { value, parity });
         }
+        receiver
+    }
+
+    // What comes of such a burst.
+    fn heard(
+        length: usize,
+        address: u8,
+        function: u8,
+        crc: u16,
+        bad: Option<usize>,
+    ) -> Result<Option<Seen>, LineFault> {
+        let receiver = received(length, address, function, crc, bad);
         let Some(frame) = receiver.reception(5)? else {
             return Ok(None);
         };
@@ -167,6 +178,42 @@ mod tests {
             fault(Cause::OtherAddress, 0),
             "255"
         );
+    }
+
+    // What is kept, and the frame of it, copied into room for the most that they can be. That this is room enough is what
+    // `octets` and `reception` promise a caller: without that, the copies are not proved.
+    fn copied(receiver: &Receiver) -> ([u8; 256], [u8; 254]) {
+        let mut kept = [0xEE; 256];
+        let octets = receiver.octets();
+        kept[..octets.len()].copy_from_slice(octets);
+        let mut told = [0xEE; 254];
+        if let Ok(Some(frame)) = receiver.reception(5) {
+            let octets = frame.octets();
+            told[..octets.len()].copy_from_slice(octets);
+        }
+        (kept, told)
+    }
+
+    #[test]
+    fn no_more_than_there_is_room_for(rt: HostRuntime) {
+        let (kept, told) = copied(&received(256, 5, 3, 0xDA13, NONE));
+        assert_eq!(rt;
+            [kept[0], kept[1], kept[2], kept[254], kept[255]],
+            [5, 3, 0, 0x13, 0xDA]
+        );
+        assert_eq!(rt; [told[0], told[1], told[2], told[253]], [5, 3, 0, 0]);
+        let (kept, told) = copied(&received(4, 5, 3, 0xE142, NONE));
+        assert_eq!(rt; [kept[3], kept[4], told[1], told[2]], [0xE1, 0xEE, 3, 0xEE]);
+    }
+
+    #[test]
+    fn a_frame_is_copied_and_compared(rt: HostRuntime) {
+        let receiver = received(4, 5, 3, 0xE142, NONE);
+        let other = received(4, 0, 6, 0xB281, NONE);
+        let heard = receiver.reception(5);
+        let again = heard;
+        assert_eq!(rt; heard, again);
+        assert_eq!(rt; heard == other.reception(5), false);
     }
 
     #[test]

@@ -1,5 +1,5 @@
 -- The burst under way: the octets since the last silence.
-use Rattle.std.specs.Prelude.{ℕ, Bool, true, false, cond, List, [], ◌∷◌, ◌++◌, map, length, take, fold, nat_lt}
+use Rattle.std.specs.Prelude.{ℕ, ◌≡◌, ◌≤◌, Bool, true, false, cond, List, [], ◌∷◌, ◌++◌, map, length, take, fold, nat_lt}
 use Rattle.line.specs.declared.characters.Parity.{Parity}
 use Rattle.line.specs.declared.characters.Character.{Character}
 
@@ -30,6 +30,11 @@ whole_burst cs = record {
   marks = take 256 (map (λ c. c.parity) cs);
   overlong = nat_lt 256 (length cs);
 }
+
+-- what is kept of every burst: no more than 256 octets, and a mark for each
+pub record Fits (b : Burst) : Type 0 where
+  pub octets : length b.octets ≤ 256
+  pub marks : length b.marks ≡ length b.octets
 
 -- an octet that came with the parity that it should have
 abbrev pub good : ℕ → Character

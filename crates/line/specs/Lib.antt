@@ -3,3 +3,4 @@ pub mod Memory
 pub mod Frames
 pub mod Line
 pub mod Compose
+pub mod Lent

@@ -1,5 +1,5 @@
 -- The receiver's memory as it is, what lies behind the burst included.
-use Rattle.std.specs.Prelude.{ℕ, ◌+◌, Bool, true, false, cond, List, replicate, take, fold, nat_lt, slice_set}
+use Rattle.std.specs.Prelude.{ℕ, ◌+◌, ◌≡◌, ◌≤◌, Bool, true, false, cond, List, length, replicate, take, fold, nat_lt, slice_set}
 use Rattle.line.specs.declared.characters.Parity.{Parity}
 use Rattle.line.specs.declared.characters.Character.{Character}
 use Rattle.line.specs.Burst.{Burst}
@@ -12,6 +12,12 @@ pub record Memory : Type 0 where
 
 abbrev pub memory : List ℕ → List Parity → ℕ → Bool → Memory
 memory os ms n over = record { octets = os; marks = ms; length = n; overlong = over }
+
+-- what every receiver keeps to: room for 256 octets and their marks, and no burst is longer
+pub record Bounded (m : Memory) : Type 0 where
+  pub octets : length m.octets ≡ 256
+  pub marks : length m.marks ≡ 256
+  pub within : m.length ≤ 256
 
 -- the burst that a memory holds
 abbrev pub burst_of : Memory → Burst

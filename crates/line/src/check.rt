@@ -1,7 +1,8 @@
 // The line's checks, tried downwards.
-ghost use Rattle.std.specs.Prelude.{◌≡◌, Err};
+ghost use Rattle.std.specs.Prelude.{◌≡◌, ◌≤◌, length, Err, IfOk, IfSome};
 ghost use Rattle.line.specs.Burst.{Burst};
-ghost use Rattle.line.specs.Memory.{burst_of};
+ghost use Rattle.line.specs.Memory.{Bounded, burst_of};
+ghost use Rattle.line.specs.Lent.{octets_of, told, lent};
 ghost use Rattle.line.specs.Line.{good_marks, damage_checks, address_checks, frame_of, judged, reception};
 ghost use Rattle.outcome.specs.Checks.{first_failing};
 
@@ -30,7 +31,7 @@ fn fails<T>(cause: Cause, place: usize) -> Result<T, LineFault>
 
 // Whether a frame is for the station with this address.
 fn addressed(frame: &Frame<'_>, address: u8) -> Result<(), LineFault>
-    ensures { (b : Burst) → result ≡ judged b tt (first_failing (address_checks address frame.now)) }
+    ensures { (b : Burst) → result ≡ judged b tt (first_failing (address_checks address (octets_of frame.now))) }
 {
     if frame.address() != address && !frame.is_broadcast() {
         return fails(Cause::OtherAddress, 0);
@@ -44,7 +45,9 @@ fn addressed(frame: &Frame<'_>, address: u8) -> Result<(), LineFault>
 impl Receiver {
     /// What the burst under way is to the station with this address: a frame, or none where there are no octets.
     pub fn reception(&self, address: u8) -> Result<Option<Frame<'_>>, LineFault>
-        ensures { result ≡ reception address (burst_of self.now) }
+        ensures value { lent result ≡ reception address (burst_of self.now) }
+        ensures frame { IfOk (lent result) (λ o. IfSome o (λ os. length os ≤ 254)) }
+        ensures bounded { Bounded self.now }
     {
         if self.octets().is_empty() {
             return Ok(None);
@@ -56,7 +59,7 @@ impl Receiver {
 
     // The frame of a burst that came undamaged.
     fn sound(&self) -> Result<Frame<'_>, LineFault>
-        ensures { result ≡ judged (burst_of self.now) (frame_of (burst_of self.now).octets) (first_failing (damage_checks (burst_of self.now))) }
+        ensures { told octets_of result ≡ judged (burst_of self.now) (frame_of (burst_of self.now).octets) (first_failing (damage_checks (burst_of self.now))) }
     {
         let marks = self.marks();
         let good = good_marks(marks);

@@ -16,12 +16,11 @@ pub struct Receiver {
 
 // The memory and not the burst that is read from it, since what lies behind the burst is promised too.
 impl Model for Receiver {
-    ghost use Rattle.std.specs.Prelude.{◌≤◌};
-    ghost use Rattle.line.specs.Memory.{Memory, memory};
+    ghost use Rattle.line.specs.Memory.{Memory, Bounded, memory};
 
     ghost Value = { Memory };
 
     ghost view = { λ r. memory r.octets r.marks r.length r.overlong };
 
-    ghost invariant = { λ r. r.length ≤ 256 };
+    ghost invariant = { λ r. Bounded (memory r.octets r.marks r.length r.overlong) };
 }

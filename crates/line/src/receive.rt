@@ -1,7 +1,7 @@
 // Octets come in, a silence empties the receiver.
-ghost use Rattle.std.specs.Prelude.{◌≡◌};
+ghost use Rattle.std.specs.Prelude.{◌≡◌, ◌≤◌, length};
 ghost use Rattle.line.specs.Burst.{more, no_burst, one_more, whole_burst};
-ghost use Rattle.line.specs.Memory.{burst_of, fresh, remembered, all_remembered, emptied};
+ghost use Rattle.line.specs.Memory.{Bounded, burst_of, fresh, remembered, all_remembered, emptied};
 
 use crate::characters::{Character, Parity};
 use crate::kept::Receiver;
@@ -11,6 +11,7 @@ impl Receiver {
     pub fn new() -> Receiver
         ensures burst { burst_of result ≡ no_burst }
         ensures memory { result ≡ fresh }
+        ensures bounded { Bounded result }
     {
         Receiver {
             octets: [0; 256],
@@ -24,8 +25,11 @@ impl Receiver {
     pub fn characters(&mut self, characters: &[Character])
         ensures burst { burst_of self.new ≡ more (burst_of self.old) characters.now }
         ensures memory { self.new ≡ all_remembered self.old characters.now }
+        ensures bounded { (Bounded self.old) × (Bounded self.new) }
         ensures whole { burst_of self.old ≡ no_burst → burst_of self.new ≡ whole_burst characters.now }
     {
+        // Brings in what every receiver keeps to, for a run of no characters.
+        let _ = &self.length;
         for character in characters {
             self.octet(*character);
         }
@@ -35,6 +39,7 @@ impl Receiver {
     pub fn octet(&mut self, character: Character)
         ensures burst { burst_of self.new ≡ one_more (burst_of self.old) character }
         ensures memory { self.new ≡ remembered self.old character }
+        ensures bounded { (Bounded self.old) × (Bounded self.new) }
     {
         if self.length < 256 {
             self.octets[self.length] = character.value;
@@ -49,14 +54,17 @@ impl Receiver {
     pub fn clear(&mut self)
         ensures burst { burst_of self.new ≡ no_burst }
         ensures memory { self.new ≡ emptied self.old }
+        ensures bounded { (Bounded self.old) × (Bounded self.new) }
     {
         self.length = 0;
         self.overlong = false;
     }
 
-    /// The octets kept.
+    /// The octets kept, at most 256.
     pub fn octets(&self) -> &[u8]
-        ensures { result.now ≡ (burst_of self.now).octets }
+        ensures value { result.now ≡ (burst_of self.now).octets }
+        ensures within { length result.now ≤ 256 }
+        ensures bounded { Bounded self.now }
     {
         &self.octets[..self.length]
     }

@@ -1,28 +1,23 @@
 // A sound frame for this station.
-ghost use Rattle.std.specs.Prelude.{◌≡◌, ℕ, ◌≤◌, List, length, drop};
-ghost use Rattle.line.specs.Frames.{address_of, function_of, is_broadcast};
-ghost use Rattle.line.specs.Line.{parted};
-
-use std::marker::Model;
+ghost use Rattle.std.specs.Prelude.{◌≡◌, ◌≤◌, length, drop};
 
 /// The octets of a frame without its CRC, where the receiver keeps them: address, function and data.
-#[derive(Drop)]
+// A ghost field and no model: a struct that borrows and has a model is neither copied nor compared.
+#[derive(Clone, Copy, PartialEq, Eq, Debug)]
 pub struct Frame<'a> {
-    octets: &'a [u8],
-}
-
-impl<'a> Model for Frame<'a> {
-    ghost Value = { List ℕ };
-
-    ghost view = { λ f. f.octets.now };
-
-    ghost invariant = { λ f. 2 ≤ length f.octets.now };
+    pub(crate) octets: &'a [u8],
+    ghost whole: { 2 ≤ length octets.now },
 }
 
 impl<'a> Frame<'a> {
+    ghost use Rattle.std.specs.Option.{option_map};
+    ghost use Rattle.line.specs.Frames.{address_of, function_of, is_broadcast};
+    ghost use Rattle.line.specs.Line.{parted};
+    ghost use Rattle.line.specs.Lent.{octets_of, octets_and_crc};
+
     /// Octets off the wire as a frame and the CRC that it carries; `None` where they are too short for that.
     pub(crate) fn parted(octets: &'a [u8]) -> Option<(Frame<'a>, u16)>
-        ensures { result ≡ parted octets.now }
+        ensures { option_map octets_and_crc result ≡ parted octets.now }
     {
         match octets {
             [body @ .., low, high] if body.len() >= 2 => {
@@ -33,33 +28,33 @@ impl<'a> Frame<'a> {
     }
 
     pub fn address(&self) -> u8
-        ensures { result ≡ address_of self.now }
+        ensures { result ≡ address_of (octets_of self.now) }
     {
         self.octets[0]
     }
 
     /// A broadcast is for all stations, and not answered.
     pub fn is_broadcast(&self) -> bool
-        ensures { result ≡ is_broadcast self.now }
+        ensures { result ≡ is_broadcast (octets_of self.now) }
     {
         self.address() == 0
     }
 
     pub fn function(&self) -> u8
-        ensures { result ≡ function_of self.now }
+        ensures { result ≡ function_of (octets_of self.now) }
     {
         self.octets[1]
     }
 
     pub fn data(&self) -> &'a [u8]
-        ensures { result.now ≡ drop 2 self.now }
+        ensures { result.now ≡ drop 2 (octets_of self.now) }
     {
         &self.octets[2..]
     }
 
     /// All of it.
     pub fn octets(&self) -> &'a [u8]
-        ensures { result.now ≡ self.now }
+        ensures { result.now ≡ octets_of self.now }
     {
         &self.octets[..]
     }

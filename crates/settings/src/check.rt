@@ -1,7 +1,7 @@
 // The thirteen checks.
 ghost use Rattle.std.specs.Prelude.{◌≡◌, true, is_ok};
 ghost use Rattle.outcome.specs.Checks.{first_failing};
-ghost use Rattle.settings.specs.Checks.{range_checks, order_checks, fail_code};
+ghost use Rattle.settings.specs.Checks.{range_checks, order_checks, fail_code, is_lawful};
 ghost use Rattle.settings.specs.Laws.{Lawful};
 ghost use Rattle.settings.specs.Table.{settings, factory_set};
 ghost use Rattle.settings.specs.Verdict.{verdict};
@@ -83,6 +83,7 @@ impl LawfulSettings {
     pub fn settings(&self) -> Settings
         ensures value { result.words ≡ self.now }
         ensures lawful { Lawful result.words }
+        ensures checked { is_lawful result.words ≡ true }
     {
         self.settings
     }

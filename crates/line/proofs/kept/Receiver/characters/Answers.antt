@@ -16,6 +16,7 @@ loop-character-preserved c =
     let within = c.loop-character-test.true in (
       one_turn one_more _ _ _ cs i d within c.loop-character.invariant.0 c.octet.ensures.burst,
       one_turn remembered _ _ _ cs i d within c.loop-character.invariant.1 c.octet.ensures.memory,
+      c.octet.ensures.bounded.1,
     )
 
 pub returns : goal.returns
@@ -24,5 +25,6 @@ returns c =
     record {
       burst = told;
       memory = search (rules, take_all);
+      bounded = (search rules, c.loop-character.invariant.2);
       whole = λ empty. told ∙ ap (λ b. more b c.args.characters.now) empty ∙ whole [] c.args.characters.now;
     }
