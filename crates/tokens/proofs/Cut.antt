@@ -1,46 +1,59 @@
--- A text is cut at its blanks, and the words are the pieces that have any characters.
-use Rattle.std.proofs.Common.{◌≡◌, ℕ, Bool, true, false, not, eqb, cond, List, [], ◌∷◌, ◌++◌, length, filter, refl, sym, ap, ◌∙◌, append_assoc, append-nil, arith}
-use Rattle.std.proofs.lemmas.Bool.Decides.{nat_tests}
-use Rattle.std.specs.List.{slice_split, onto_first}
-use Rattle.tokens.specs.Words.{is_blank, ended, words_from, words_of}
+-- A text is cut into words from its front on.
+use Rattle.std.proofs.Common.{◌≡◌, ℕ, ◌+◌, ◌<◌, ◌≤◌, true, false, cond, List, [], ◌∷◌, ◌++◌, length, get_or, drop, sym, refl, ap, ◌∙◌, append_assoc, arith, Bor}
+use Rattle.std.proofs.lemmas.List.{at_drop_more, drop_all, map-append}
+use Rattle.std.proofs.lemmas.List.Edits.{between_none, between_more}
+use Rattle.std.specs.List.{between}
+use Rattle.tokens.specs.Words.{is_blank, ended, words_from, words_of, spelt}
 
-abbrev pub is_word : List ℕ → Bool
-is_word w = not (eqb (length w) 0)
+-- the words found so far, the word under way and what is left make the words of the text
+pub record Sofar (text : List ℕ) (found : List (List ℕ)) (start i : ℕ) : Type 0 where
+  pub begun : start ≤ i
+  pub whole : found ++ words_from (between start i text) (drop i text) ≡ words_of text
 
--- the word under way joins the first piece of what is left
-onto : List ℕ → List (List ℕ) → List (List ℕ)
-onto w [] = w ∷ []
-onto w (piece ∷ pieces) = (w ++ piece) ∷ pieces
+ended_more : (w : List ℕ) (ws : List (List ℕ)) → ended w ws ≡ ended w [] ++ ws
+ended_more [] ws = refl
+ended_more (c ∷ w) ws = refl
 
-kept : (w : List ℕ) (ws : List (List ℕ)) → ended w (filter is_word ws) ≡ filter is_word (w ∷ ws)
-kept [] ws = refl
-kept (c ∷ w) ws = let some : is_word (c ∷ w) ≡ true = grind (arith, nat_tests) in rw some
+pub none_yet : (text : List ℕ) → Sofar text [] 0 0
+none_yet text = record { begun = omega arith; whole = refl }
 
--- a word that has ended stands alone before the pieces that are left
-ends : (w : List ℕ) (pieces : List (List ℕ)) → ended w (filter is_word pieces) ≡ filter is_word (onto w ([] ∷ pieces))
-unfolding onto
-ends w pieces = kept w pieces ∙ ap (λ v. filter is_word (v ∷ pieces)) (sym (append-nil w))
+module _ (text : List ℕ) (found : List (List ℕ)) (start i : ℕ) (sofar : Sofar text found start i) where
+  -- the words from here on, by the character that stands here
+  here : i < length text → words_from (between start i text) (drop i text)
+      ≡ cond (is_blank (get_or text i 0)) (ended (between start i text) (words_from [] (drop (i + 1) text))) (words_from (between start i text ++ (get_or text i 0 ∷ [])) (drop (i + 1) text))
+  here h = at_drop_more (words_from (between start i text)) text i 0 h
 
-none_onto : (pieces : List (List ℕ)) → filter is_word (onto [] pieces) ≡ filter is_word pieces
-unfolding onto
-none_onto [] = refl
-none_onto (piece ∷ pieces) = refl
+  pub word_goes_on : i < length text → is_blank (get_or text i 0) ≡ false → Sofar text found start (i + 1)
+  word_goes_on h plain = record {
+    begun = omega (arith, sofar.begun);
+    whole =
+        ap (λ w. found ++ words_from w (drop (i + 1) text)) (between_more text start i 0 sofar.begun h)
+        ∙ ap (λ ws. found ++ ws) (sym (here h ∙ rw plain))
+        ∙ sofar.whole;
+  }
 
-goes_on : (w : List ℕ) (c : ℕ) (pieces : List (List ℕ)) → onto (w ++ (c ∷ [])) pieces ≡ onto w (onto_first c pieces)
-unfolding onto
-goes_on w c [] = refl
-goes_on w c (piece ∷ pieces) = ap (λ v. v ∷ pieces) (append_assoc w (c ∷ []) piece)
+  pub word_ends : i < length text → is_blank (get_or text i 0) ≡ true → (more : List (List ℕ)) → more ≡ found ++ ended (between start i text) [] → Sofar text more (i + 1) (i + 1)
+  word_ends h blank more e = record {
+    begun = omega arith;
+    whole =
+        ap (λ w. more ++ words_from w (drop (i + 1) text)) (between_none text (i + 1))
+        ∙ ap (λ ws. ws ++ words_from [] (drop (i + 1) text)) e
+        ∙ append_assoc found (ended (between start i text) []) (words_from [] (drop (i + 1) text))
+        ∙ ap (λ ws. found ++ ws) (sym (here h ∙ rw blank (ended_more (between start i text) (words_from [] (drop (i + 1) text)))))
+        ∙ sofar.whole;
+  }
 
-either : {A B : Type 0} (f : B → A) (b : Bool) (x y : A) (p q : B) → x ≡ f p → y ≡ f q → cond b x y ≡ f (cond b p q)
-either f true x y p q e k = e
-either f false x y p q e k = k
+  pub all_found : i ≡ length text → (more : List (List ℕ)) → more ≡ found ++ ended (between start (length text) text) [] → more ≡ words_of text
+  all_found done more e =
+      e
+      ∙ ap (λ n. found ++ ended (between start n text) []) (sym done)
+      ∙ ap (λ cs. found ++ words_from (between start i text) cs) (sym (drop_all i text (omega arith)))
+      ∙ sofar.whole
 
-pieces_from : (w cs : List ℕ) → words_from w cs ≡ filter is_word (onto w (slice_split is_blank cs))
-pieces_from w [] = ends w []
-pieces_from w (c ∷ cs) =
-    either (λ pieces. filter is_word (onto w pieces)) (is_blank c) _ _ ([] ∷ slice_split is_blank cs) (onto_first c (slice_split is_blank cs))
-    (ap (ended w) (pieces_from [] cs ∙ none_onto (slice_split is_blank cs)) ∙ ends w (slice_split is_blank cs))
-    (pieces_from (w ++ (c ∷ [])) cs ∙ ap (filter is_word) (goes_on w c (slice_split is_blank cs)))
+-- a word that has any characters ends as one more
+ended_some : (w : List ℕ) → (length w ≡ 0 → ⊥) → w ∷ [] ≡ ended w []
+ended_some [] some = absurd (some refl)
+ended_some (c ∷ w) some = refl
 
-pub words_are_pieces : (text : List ℕ) → words_of text ≡ filter is_word (slice_split is_blank text)
-words_are_pieces text = pieces_from [] text ∙ none_onto (slice_split is_blank text)
+pub word_joins : (ws : List (Bor (List ℕ))) (w : Bor (List ℕ)) → (length w.now ≡ 0 → ⊥) → spelt (ws ++ (w ∷ [])) ≡ spelt ws ++ ended w.now []
+word_joins ws w some = map-append (λ r. r.now) ws (w ∷ []) ∙ ap (λ xs. spelt ws ++ xs) (ended_some w.now some)

@@ -1,16 +1,19 @@
-use Rattle.std.specs.Slice.Iter as slice
-use Rattle.std.proofs.Common.{ap, ◌∙◌, rules, tests}
-use Rattle.std.proofs.lemmas.Iterator.Consumers.{map_from_collect, YieldsList-from_filter}
-use Rattle.std.proofs.lemmas.Iterator.Splits.{YieldsList-from_slice_split}
-use Rattle.tokens.specs.Words.{is_blank}
-use Rattle.tokens.proofs.Cut.{is_word, words_are_pieces}
+use Rattle.std.proofs.Common.{sym, arith}
+use Rattle.tokens.proofs.Cut.{none_yet, word_goes_on, word_ends, all_found}
 use Rattle.tokens.proofs.texts.words.Goals as goal
+use Rattle.tokens.proofs.texts.words.Goals.{then-is_blank+in_ok-end_word, else-is_blank}
+
+pub loop-i-init : goal.loop-i-init
+loop-i-init c = rw c.new-words.ensures.items (none_yet c.args.text.now)
+
+pub loop-i-preserved : goal.loop-i-preserved
+loop-i-preserved c =
+    elim c.if-is_blank.branch [
+      | then-is_blank+in_ok-end_word w ↦
+          rw (w.words-is, w.start-is) (word_ends _ _ _ _ c.loop-i.invariant c.loop-i-test.true (sym w.if-is_blank.ensures) _ w.in_ok-end_word.ensures)
+      | else-is_blank w ↦
+          rw (w.words-is, w.start-is) (word_goes_on _ _ _ _ c.loop-i.invariant c.loop-i-test.true (sym w.if-is_blank.ensures))
+    ]
 
 pub returns : goal.returns
-returns c =
-    let cut = c.split.ensures in
-    let source = c.filter.ensures.source in
-    rw (words_are_pieces c.args.text.now) (map_from_collect _ c.collect.ensures.ran
-    (YieldsList-from_filter {s = c.filter.result} _ is_word
-    (YieldsList-from_slice_split {s = c.filter.result.iter} _ is_blank c.args.text.now (ap slice.split_rest source ∙ cut.rest) (ap slice.split_done source ∙ cut.done) (ap slice.split_callee source ∙ cut.closure) (λ x r q k. search (rules, tests)))
-    c.filter.ensures.closure (λ x r q k. search (rules, tests))))
+returns c = all_found _ _ _ _ c.loop-i.invariant (omega arith) _ c.in_ok-end_word-2.ensures
