@@ -83,10 +83,10 @@ fn long_store(name: &[u8], word: &[u8], values: &[&[u8]]) -> Option<StoreImage>
     })
 }
 
-fn store(words: &[&[u8]]) -> Option<StoreImage>
-    ensures { result ≡ store_in (spelt words.now) }
+fn store(image: &[&[u8]]) -> Option<StoreImage>
+    ensures { result ≡ store_in (spelt image.now) }
 {
-    match words {
+    match image {
         [name, word] => short_store(name, word),
         [name, word, values @ ..] => long_store(name, word, values),
         _ => None,
