@@ -60,7 +60,7 @@ impl Listener {
         ensures value { lent result ≡ passed (reception self.now.address self.now.burst) }
         ensures frame { IfOk (lent result) (λ o. IfSome o (λ os. length os ≤ 254)) }
     {
-        Ok(self.receiver.reception(self.address)?)
+        Ok(self.receiver.frame(self.address)?)
     }
 
     /// The silence itself: it ends the burst, unless it is refused.

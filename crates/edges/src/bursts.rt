@@ -1,21 +1,10 @@
 // Bursts: lengths, parity marks, addresses. The CRCs are stored, not worked out here.
 #[cfg(test)]
 mod tests {
-    use line::{Character, LineFault, Parity, Receiver, compose};
+    use line::{Character, LineFault, Parity, Places, Receiver, compose};
     use outcome::{Cause, Fault, Layer};
 
     const NONE: Option<usize> = None;
-
-    // What the tests expect of a frame: its address, whether it is a broadcast, and where its function, its data and its CRC stand.
-    // Frames of 253 and 254 octets would be expected octet by octet. A place is `None` where what should stand there does not.
-    #[derive(Clone, Copy, PartialEq, Eq, Debug)]
-    struct Seen {
-        address: u8,
-        broadcast: bool,
-        function: Option<usize>,
-        data: Option<usize>,
-        end: usize,
-    }
 
     // A burst of so many octets: address, function, zeros, and the CRC at its end. The octet at `bad`, if any, has bad parity.
     fn received(
@@ -52,33 +41,21 @@ mod tests {
         function: u8,
         crc: u16,
         bad: Option<usize>,
-    ) -> Result<Option<Seen>, LineFault> {
-        let receiver = received(length, address, function, crc, bad);
-        let Some(frame) = receiver.reception(5)? else {
-            return Ok(None);
-        };
-        let octets = frame.octets();
-        Ok(Some(Seen {
-            address: frame.address(),
-            broadcast: frame.is_broadcast(),
-            function: (octets.get(1) == Some(&frame.function())).then_some(1),
-            data: octets.len().checked_sub(frame.data().len()),
-            end: octets.len(),
-        }))
+    ) -> Result<Option<Places>, LineFault> {
+        received(length, address, function, crc, bad).reception(5)
     }
 
-    fn frame(address: u8, end: usize) -> Result<Option<Seen>, LineFault> {
-        let broadcast = address == 0;
-        Ok(Some(Seen {
+    fn frame(address: u8, end: usize) -> Result<Option<Places>, LineFault> {
+        Ok(Some(Places {
             address,
-            broadcast,
-            function: Some(1),
-            data: Some(2),
+            broadcast: address == 0,
+            function: 1,
+            data: 2,
             end,
         }))
     }
 
-    fn fault(cause: Cause, place: usize) -> Result<Option<Seen>, LineFault> {
+    fn fault(cause: Cause, place: usize) -> Result<Option<Places>, LineFault> {
         Err(LineFault { cause, place })
     }
 
@@ -181,13 +158,13 @@ mod tests {
     }
 
     // What is kept, and the frame of it, copied into room for the most that they can be. That this is room enough is what
-    // `octets` and `reception` promise a caller: without that, the copies are not proved.
+    // `octets` and `frame` promise a caller: without that, the copies are not proved.
     fn copied(receiver: &Receiver) -> ([u8; 256], [u8; 254]) {
         let mut kept = [0xEE; 256];
         let octets = receiver.octets();
         kept[..octets.len()].copy_from_slice(octets);
         let mut told = [0xEE; 254];
-        if let Ok(Some(frame)) = receiver.reception(5) {
+        if let Ok(Some(frame)) = receiver.frame(5) {
             let octets = frame.octets();
             told[..octets.len()].copy_from_slice(octets);
         }
@@ -210,10 +187,26 @@ mod tests {
     fn a_frame_is_copied_and_compared(rt: HostRuntime) {
         let receiver = received(4, 5, 3, 0xE142, NONE);
         let other = received(4, 0, 6, 0xB281, NONE);
-        let heard = receiver.reception(5);
+        let heard = receiver.frame(5);
         let again = heard;
         assert_eq!(rt; heard, again);
-        assert_eq!(rt; heard == other.reception(5), false);
+        assert_eq!(rt; heard == other.frame(5), false);
+        if let Ok(Some(frame)) = heard {
+            assert_eq!(rt;
+                (frame.address(), frame.is_broadcast(), frame.function()),
+                (5, false, 3)
+            );
+            assert_eq!(rt; (frame.data().len(), frame.octets().len()), (0, 2));
+        }
+    }
+
+    #[test]
+    fn a_reception_is_kept_when_the_burst_has_gone(rt: HostRuntime) {
+        let mut receiver = received(256, 5, 3, 0xDA13, NONE);
+        let told = receiver.reception(5);
+        receiver.clear();
+        assert_eq!(rt; told, frame(5, 254));
+        assert_eq!(rt; receiver.reception(5), Ok(None));
     }
 
     #[test]

@@ -4,3 +4,4 @@ pub mod Frames
 pub mod Line
 pub mod Compose
 pub mod Lent
+pub mod Places

@@ -3,13 +3,15 @@ ghost use Rattle.std.specs.Prelude.{◌≡◌, ◌≤◌, length, Err, IfOk, IfS
 ghost use Rattle.line.specs.Burst.{Burst};
 ghost use Rattle.line.specs.Memory.{Bounded, burst_of};
 ghost use Rattle.line.specs.Lent.{octets_of, told, lent};
+ghost use Rattle.line.specs.Places.{places_of};
+ghost use Rattle.std.specs.Option.{option_map};
 ghost use Rattle.line.specs.Line.{good_marks, damage_checks, address_checks, frame_of, judged, reception};
 ghost use Rattle.outcome.specs.Checks.{first_failing};
 
 use crate::characters::Parity;
 use crate::faults::LineFault;
 use crate::kept::Receiver;
-use crate::received::Frame;
+use crate::received::{Frame, Places};
 use crc::crc_of;
 use outcome::Cause;
 
@@ -43,8 +45,19 @@ fn addressed(frame: &Frame<'_>, address: u8) -> Result<(), LineFault>
 }
 
 impl Receiver {
-    /// What the burst under way is to the station with this address: a frame, or none where there are no octets.
-    pub fn reception(&self, address: u8) -> Result<Option<Frame<'_>>, LineFault>
+    /// What the burst under way is to the station with this address: a frame, by where its parts stand here, or none where there
+    /// are no octets. The answer is not lent, so it may be kept when the burst has gone.
+    pub fn reception(&self, address: u8) -> Result<Option<Places>, LineFault>
+        ensures value { result ≡ told (option_map places_of) (reception address (burst_of self.now)) }
+        ensures frame { IfOk result (λ o. IfSome o (λ places. places.end ≤ 254)) }
+        ensures bounded { Bounded self.now }
+    {
+        let frame = self.frame(address)?;
+        Ok(frame.map(|frame| frame.places()))
+    }
+
+    /// The same, with the frame as its octets, which are lent.
+    pub fn frame(&self, address: u8) -> Result<Option<Frame<'_>>, LineFault>
         ensures value { lent result ≡ reception address (burst_of self.now) }
         ensures frame { IfOk (lent result) (λ o. IfSome o (λ os. length os ≤ 254)) }
         ensures bounded { Bounded self.now }

@@ -13,4 +13,4 @@ pub use characters::{Character, Parity};
 pub use faults::LineFault;
 pub use frames::compose;
 pub use kept::Receiver;
-pub use received::Frame;
+pub use received::{Frame, Places};

@@ -9,11 +9,23 @@ pub struct Frame<'a> {
     ghost whole: { 2 ≤ length octets.now },
 }
 
+/// Where the parts of a sound frame for this station stand in the receiver: the function at `function`, the data from `data` on,
+/// and at `end` the CRC.
+#[derive(Clone, Copy, PartialEq, Eq, Debug)]
+pub struct Places {
+    pub address: u8,
+    pub broadcast: bool,
+    pub function: usize,
+    pub data: usize,
+    pub end: usize,
+}
+
 impl<'a> Frame<'a> {
     ghost use Rattle.std.specs.Option.{option_map};
     ghost use Rattle.line.specs.Frames.{address_of, function_of, is_broadcast};
     ghost use Rattle.line.specs.Line.{parted};
     ghost use Rattle.line.specs.Lent.{octets_of, octets_and_crc};
+    ghost use Rattle.line.specs.Places.{places_of};
 
     /// Octets off the wire as a frame and the CRC that it carries; `None` where they are too short for that.
     pub(crate) fn parted(octets: &'a [u8]) -> Option<(Frame<'a>, u16)>
@@ -50,6 +62,19 @@ impl<'a> Frame<'a> {
         ensures { result.now ≡ drop 2 (octets_of self.now) }
     {
         &self.octets[2..]
+    }
+
+    // Where its parts stand in the receiver that lends it.
+    pub(crate) fn places(&self) -> Places
+        ensures { result ≡ places_of (octets_of self.now) }
+    {
+        Places {
+            address: self.address(),
+            broadcast: self.is_broadcast(),
+            function: 1,
+            data: 2,
+            end: self.octets.len(),
+        }
     }
 
     /// All of it.
